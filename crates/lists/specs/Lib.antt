@@ -1,0 +1,3 @@
+-- The definitions that every crate's contracts cite.
+pub mod Answer
+pub mod Lists

@@ -1,0 +1,1 @@
+// Lists, places and answers: definitions (specs/) and laws (proofs/), and no code.
