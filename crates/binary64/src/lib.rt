@@ -6,4 +6,5 @@ pub use range::coordinate_in_range;
 pub use range::extent_in_range;
 pub use range::figure_in_range;
 pub use size::abs;
+pub use size::is_within;
 pub use size::larger;
