@@ -1,3 +1,4 @@
 -- Laws of the definitions, cited by this crate's proofs and by the crates above.
 pub mod Values
 pub mod Sizes
+pub mod Ceilings

@@ -11,7 +11,7 @@ use lib.IntN.{ℤ, pos, negsuc}
 use lib.Ieee.{Float, nan, inf, fin, binary64, up, down, neg, lt, le, eq, below, level, fits}
 use lib.Ieee.Fits.{up-pos, down-pos, and-l, and-r}
 use borrow.Author.Tests.{ltb-false}
-use Rattle.binary64.proofs.Values.{same-test}
+use Rattle.binary64.proofs.Values.{same-test, zero-exponent}
 use Rattle.binary64.specs.Numbers.{atMost, abs}
 
 -- ---- tests
@@ -149,19 +149,6 @@ first-zero (suc m) u U h = absurd (lt-irrefl 0 (subst (λ (z : ℕ). 0 < z) (sym
   where
     lt→pos : (m : ℕ) → 0 < suc m
     lt→pos m = omega arith
-
-two-up : (k : ℕ) → 2 ^ suc k ≡ 1 → ⊥
-two-up k h = more (2 ^ suc k) (2 ^ k) (two-pow-succ k) (pow-pos k) h
-  where
-    more : (a b : ℕ) → a ≡ b + b → 0 < b → a ≡ 1 → ⊥
-    more a b e p h = omega arith
-
--- a zero of the format has the exponent 0
-zero-exponent : (s : Bool) (e : ℤ) → T (fits binary64 (fin s 0 e)) → e ≡ pos 0
-unfolding fits
-zero-exponent s (pos zero) t = refl
-zero-exponent s (pos (suc k)) t = absurd (two-up k (sym (mul-one (2 ^ suc k)) ∙ eqb→eq (2 ^ suc k * 1) 1 t))
-zero-exponent s (negsuc k) t = absurd (two-up k (sym (one-mul (2 ^ suc k)) ∙ eqb→eq (1 * 2 ^ suc k) 1 t))
 
 pub abs-zero : (x : Float) → T (fits binary64 x) → eq x (fin false 0 (pos 0)) ≡ true → abs x ≡ fin false 0 (pos 0)
 unfolding abs eq

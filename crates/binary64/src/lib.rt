@@ -1,10 +1,12 @@
 // What Rust's std gave the original on binary64 numbers: range tests, abs, rounding with capping casts, the square root.
 mod range;
+mod rounding;
 mod size;
 
 pub use range::coordinate_in_range;
 pub use range::extent_in_range;
 pub use range::figure_in_range;
+pub use rounding::ceil_capped;
 pub use size::abs;
 pub use size::is_within;
 pub use size::larger;
