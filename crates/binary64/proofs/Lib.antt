@@ -2,3 +2,4 @@
 pub mod Values
 pub mod Sizes
 pub mod Ceilings
+pub mod Halves

@@ -7,6 +7,7 @@ pub use range::coordinate_in_range;
 pub use range::extent_in_range;
 pub use range::figure_in_range;
 pub use rounding::ceil_capped;
+pub use rounding::nearest_capped;
 pub use size::abs;
 pub use size::is_within;
 pub use size::larger;
