@@ -3,3 +3,6 @@ pub mod Values
 pub mod Sizes
 pub mod Ceilings
 pub mod Halves
+pub mod WholeRoots
+pub mod RoundedRoots
+pub mod Patterns
