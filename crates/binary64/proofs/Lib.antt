@@ -6,3 +6,5 @@ pub mod Halves
 pub mod WholeRoots
 pub mod RoundedRoots
 pub mod Patterns
+pub mod NearestRoot
+pub mod Shapes
