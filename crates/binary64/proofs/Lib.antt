@@ -2,3 +2,10 @@
 pub mod Values
 pub mod Sizes
 pub mod Order
+pub mod Ceilings
+pub mod Halves
+pub mod WholeRoots
+pub mod RoundedRoots
+pub mod Patterns
+pub mod NearestRoot
+pub mod Shapes

@@ -1,17 +1,17 @@
--- Laws of `atMost` and `abs`: the comparisons by which a program works each out. Assumes nothing.
+-- Laws of `abs` and `atMost`: the comparisons by which a program works each out. Assumes nothing.
 use mathlib.Core.Path.{_≡_, refl, sym, ap, _∙_, subst}
 use mathlib.Core.Logic.{_⊎_, inl, inr}
-use Prim.Native.Nat.{ℕ, zero, suc, _+_, _-_, _*_, _/_, _%_, _^_, _≤_, _<_, min, max}
-use native.Mathlib.Nat.{two-pow-succ, le-refl, le-trans, le-of-eq, le-of-lt, eq-or-lt-of-le, lt-of-le-of-lt, lt-of-lt-of-le, mul-one, one-mul, zero-mul, mul-pos, add-zero, zero-add, lt-irrefl, not-le-of-lt}
+use Prim.Native.Nat.{ℕ, zero, suc, _+_, _*_, _^_, _≤_, _<_}
+use native.Mathlib.Nat.{two-pow-succ, le-of-eq, le-of-lt, eq-or-lt-of-le, eq-zero-or-pos, mul-one, one-mul, zero-mul, mul-pos, lt-irrefl}
 use native.Mathlib.Omega.{arith}
 use mathlib.Core.Bool.{Bool, true, false, not, _&&_, _||_, cond, Bool·beq}
 use lib.Dec.{T, leb, ltb, eqb, ltb→lt, lt→ltb, leb→le, le→leb, eqb→eq, eqb-refl}
 use lib.Pow.{pow-pos}
 use lib.IntN.{ℤ, pos, negsuc}
-use lib.Ieee.{Float, nan, inf, fin, Format, binary64, up, down, neg, lt, le, eq, fits}
+use lib.Ieee.{Float, nan, inf, fin, binary64, up, down, neg, lt, le, eq, below, level, fits}
 use lib.Ieee.Fits.{up-pos, down-pos, and-l, and-r}
 use borrow.Author.Tests.{ltb-false}
-use Rattle.binary64.proofs.Values.{same-test}
+use Rattle.binary64.proofs.Values.{same-test, zero-exponent}
 use Rattle.binary64.specs.Numbers.{atMost, abs}
 
 -- ---- tests
@@ -23,6 +23,28 @@ or-r : (a b : Bool) → T b → T (a || b)
 or-r true b t = tt
 or-r false b t = t
 
+and-both : (a b : Bool) → T a → T b → T (a && b)
+and-both true b s t = t
+and-both false b s t = absurd s
+
+-- a test that holds where another does adds nothing to it
+and-after : (p q : Bool) → (T p → T q) → p ≡ (p && q)
+and-after true true f = refl
+and-after true false f = absurd (f tt)
+and-after false q f = refl
+
+and-before : (p q : Bool) → (T q → T p) → q ≡ (p && q)
+and-before true q f = refl
+and-before false true f = absurd (f tt)
+and-before false false f = refl
+
+same-eqb : (a b : ℕ) → a ≡ b → T (eqb a b)
+same-eqb a b e = subst (λ (x : ℕ). T (eqb a x)) e (eqb-refl a)
+
+swap-eqb : (a b : ℕ) → eqb b a ≡ eqb a b
+swap-eqb a b = same-test (eqb b a) (eqb a b) (λ t. same-eqb a b (sym (eqb→eq b a t))) (λ t. same-eqb b a (sym (eqb→eq a b t)))
+
+-- ---- comparisons of sizes, as `le` works them out
 le-or : (a b : ℕ) (u : Bool) → T (ltb a b || (eqb a b && u)) → a ≤ b
 le-or a b u t = go (ltb a b) (eqb a b) (ltb→lt a b) (eqb→eq a b) t
   where
@@ -31,57 +53,83 @@ le-or a b u t = go (ltb a b) (eqb a b) (ltb→lt a b) (eqb→eq a b) t
     go false true f g t = le-of-eq (g tt)
     go false false f g t = absurd t
 
--- `<` or `==`, where u says that `==` is as of the sizes
-pub le-form : (a b : ℕ) (u : Bool) → T u → (ltb a b || (eqb a b && u)) ≡ leb a b
-le-form a b true u = same-test (ltb a b || (eqb a b && true)) (leb a b) (λ t. le→leb a b (le-or a b true t))
-    (λ t. elim (eq-or-lt-of-le (leb→le a b t)) [ inl e ↦ or-r (ltb a b) (eqb a b && true) (subst (λ (x : ℕ). T (eqb a x && true)) e (self (eqb a a) (eqb-refl a))) | inr l ↦ or-l (ltb a b) (eqb a b && true) (lt→ltb a b l) ])
-  where
-    self : (p : Bool) → T p → T (p && true)
-    self true t = tt
-    self false t = t
-le-form a b false u = absurd u
+or-level : (a b c d : ℕ) → a ≡ b → T (ltb c d || (eqb a b && true))
+or-level a b c d e = or-r (ltb c d) (eqb a b && true) (and-both (eqb a b) true (same-eqb a b e) tt)
 
-is-true : (b : Bool) → T b → b ≡ true
-is-true true t = refl
-is-true false t = absurd t
+-- `<` or `==` is ≤
+pub le-form : (a b : ℕ) → (ltb a b || (eqb a b && true)) ≡ leb a b
+le-form a b = same-test (ltb a b || (eqb a b && true)) (leb a b) (λ t. le→leb a b (le-or a b true t))
+    (λ t. elim (eq-or-lt-of-le (leb→le a b t)) [ inl e ↦ or-level a b a b e | inr l ↦ or-l (ltb a b) (eqb a b && true) (lt→ltb a b l) ])
 
-and-true : (b : Bool) → (b && true) ≡ b
-and-true true = refl
-and-true false = refl
+-- -a is at most b
+minus-plus : (a b : ℕ) → T (ltb 0 (a + b) || (eqb a b && eqb a 0))
+minus-plus a b = elim (eq-zero-or-pos (a + b)) [
+  | inl z ↦ or-r (ltb 0 (a + b)) (eqb a b && eqb a 0) (and-both (eqb a b) (eqb a 0) (same-eqb a b (omega arith)) (same-eqb a 0 (omega arith)))
+  | inr p ↦ or-l (ltb 0 (a + b)) (eqb a b && eqb a 0) (lt→ltb 0 (a + b) p)
+]
+
+-- a is at most -b: both are zero
+zeros : (a b : ℕ) → T (eqb a b && eqb a 0) → T (eqb b a && eqb b 0)
+zeros a b t =
+    let e = eqb→eq a b (and-l (eqb a b) (eqb a 0) t) in
+    let z = eqb→eq a 0 (and-r (eqb a b) (eqb a 0) t) in
+    and-both (eqb b a) (eqb b 0) (same-eqb b a (sym e)) (same-eqb b 0 (sym e ∙ z))
+
+level-within : (s t : Bool) (a b : ℕ) → (below false a t b || level false a t b) ≡ ((below s a t b || level s a t b) && (below (not t) b s a || level (not t) b s a))
+level-within false false a b = and-after (ltb a b || (eqb a b && true)) (ltb 0 (b + a) || (eqb b a && eqb b 0)) (λ t. minus-plus b a)
+level-within true false a b =
+    ap (λ (z : Bool). ltb a b || (z && true)) (sym (swap-eqb a b))
+    ∙ and-before (ltb 0 (a + b) || (eqb a b && eqb a 0)) (ltb a b || (eqb b a && true)) (λ t. minus-plus a b)
+level-within false true a b = and-after (eqb a b && eqb a 0) (ltb b a || (eqb b a && true)) (λ t. or-level b a b a (sym (eqb→eq a b (and-l (eqb a b) (eqb a 0) t))))
+level-within true true a b =
+    same-test (eqb a b && eqb a 0) (eqb b a && eqb b 0) (zeros a b) (zeros b a)
+    ∙ and-before (ltb b a || (eqb a b && true)) (eqb b a && eqb b 0) (λ t. or-level a b b a (sym (eqb→eq b a (and-l (eqb b a) (eqb b 0) t))))
+
+below-within : (s t : Bool) (a b : ℕ) → below false a t b ≡ (below s a t b && below (not t) b s a)
+below-within false false a b = and-after (ltb a b) (ltb 0 (b + a)) (λ t. let h = ltb→lt a b t in lt→ltb 0 (b + a) (omega arith))
+below-within true false a b = and-before (ltb 0 (a + b)) (ltb a b) (λ t. let h = ltb→lt a b t in lt→ltb 0 (a + b) (omega arith))
+below-within false true a b = refl
+below-within true true a b = and-before (ltb b a) false (λ t. absurd t)
+
+-- ---- a size within e: the number is between -e and e
+pub within-abs : (d e : Float) → le (abs d) e ≡ (le d e && le (neg e) d)
+unfolding abs neg le
+within-abs nan e = refl
+within-abs (inf true) nan = refl
+within-abs (inf false) nan = refl
+within-abs (inf true) (inf true) = refl
+within-abs (inf true) (inf false) = refl
+within-abs (inf false) (inf true) = refl
+within-abs (inf false) (inf false) = refl
+within-abs (inf true) (fin t n g) = refl
+within-abs (inf false) (fin t n g) = refl
+within-abs (fin s m e) nan = refl
+within-abs (fin s m e) (inf true) = refl
+within-abs (fin s m e) (inf false) = refl
+within-abs (fin s m e) (fin t n g) = level-within s t (m * up e * down g) (n * up g * down e)
+
+pub below-abs : (d e : Float) → lt (abs d) e ≡ (lt d e && lt (neg e) d)
+unfolding abs neg lt
+below-abs nan e = refl
+below-abs (inf true) nan = refl
+below-abs (inf false) nan = refl
+below-abs (inf true) (inf true) = refl
+below-abs (inf true) (inf false) = refl
+below-abs (inf false) (inf true) = refl
+below-abs (inf false) (inf false) = refl
+below-abs (inf true) (fin t n g) = refl
+below-abs (inf false) (fin t n g) = refl
+below-abs (fin s m e) nan = refl
+below-abs (fin s m e) (inf true) = refl
+below-abs (fin s m e) (inf false) = refl
+below-abs (fin s m e) (fin t n g) = below-within s t (m * up e * down g) (n * up g * down e)
 
 -- ---- size at most 2 ^ k
-either-way : (A B : ℕ) → 0 < B → (ltb 0 (A + B) || (eqb A B && (false || eqb A 0))) ≡ true
-either-way A B h = is-true (ltb 0 (A + B) || (eqb A B && (false || eqb A 0))) (or-l (ltb 0 (A + B)) (eqb A B && (false || eqb A 0)) (lt→ltb 0 (A + B) (omega arith)))
-
-either-way' : (A B : ℕ) → 0 < B → (ltb 0 (B + A) || (eqb B A && (false || eqb B 0))) ≡ true
-either-way' A B h = is-true (ltb 0 (B + A) || (eqb B A && (false || eqb B 0))) (or-l (ltb 0 (B + A)) (eqb B A && (false || eqb B 0)) (lt→ltb 0 (B + A) (omega arith)))
-
-pub atMost-is : (k : ℕ) (x : Float) → atMost k x ≡ (le x (fin false 1 (pos k)) && le (fin true 1 (pos k)) x)
-unfolding atMost le
+pub atMost-is : (k : ℕ) (x : Float) → atMost k x ≡ le (abs x) (fin false 1 (pos k))
+unfolding atMost abs le
 atMost-is k nan = refl
-atMost-is k (inf true) = refl
-atMost-is k (inf false) = refl
-atMost-is k (fin false m e) =
-    let A = m * up e * 1 in
-    let B = 1 * 2 ^ k * down e in
-    let P : 0 < B = mul-pos (mul-pos (pow-pos 0) (pow-pos k)) (down-pos e) in
-    sym (ap (λ (t : Bool). t && (ltb 0 (B + A) || (eqb B A && (false || eqb B 0)))) (le-form A B true tt)
-    ∙ ap (λ (t : Bool). leb A B && t) (either-way' A B P)
-    ∙ and-true (leb A B)
-    ∙ ap (λ (z : ℕ). leb z B) (mul-one (m * up e)) ∙ ap (λ (z : ℕ). leb (m * up e) (z * down e)) (one-mul (2 ^ k)))
-atMost-is k (fin true m e) =
-    let A = m * up e * 1 in
-    let B = 1 * 2 ^ k * down e in
-    let P : 0 < B = mul-pos (mul-pos (pow-pos 0) (pow-pos k)) (down-pos e) in
-    sym (ap (λ (t : Bool). t && (ltb A B || (eqb B A && (true || eqb B 0)))) (either-way A B P)
-    ∙ turned A B
-    ∙ ap (λ (z : ℕ). leb z B) (mul-one (m * up e)) ∙ ap (λ (z : ℕ). leb (m * up e) (z * down e)) (one-mul (2 ^ k)))
-  where
-    swap : (A B : ℕ) → eqb B A ≡ eqb A B
-    swap A B = same-test (eqb B A) (eqb A B) (λ t. subst (λ (x : ℕ). T (eqb x B)) (eqb→eq B A t) (eqb-refl B)) (λ t. subst (λ (x : ℕ). T (eqb x A)) (eqb→eq A B t) (eqb-refl A))
-
-    turned : (A B : ℕ) → (ltb A B || (eqb B A && true)) ≡ leb A B
-    turned A B = ap (λ (t : Bool). ltb A B || (t && true)) (swap A B) ∙ le-form A B true tt
+atMost-is k (inf s) = refl
+atMost-is k (fin s m e) = sym (le-form (m * up e * 1) (1 * 2 ^ k * down e) ∙ ap (λ (z : ℕ). leb z (1 * 2 ^ k * down e)) (mul-one (m * up e)) ∙ ap (λ (z : ℕ). leb (m * up e) (z * down e)) (one-mul (2 ^ k)))
 
 -- ---- the size of x: by whether x is below zero, or is a zero
 pub abs-below : (x : Float) → lt x (fin false 0 (pos 0)) ≡ true → abs x ≡ neg x
@@ -95,28 +143,12 @@ abs-below (fin false m e) h = absurd (none (m * up e * 1) (0 * 1 * down e) (zero
     none : (n z : ℕ) → z ≡ 0 → n < z → ⊥
     none n z e h = omega arith
 
-no-test : (b : Bool) → b ≡ true → b ≡ false → ⊥
-no-test b p q = subst T (sym p ∙ q) tt
-
 first-zero : (m u : ℕ) → 0 < u → m * u * 1 ≡ 0 → m ≡ 0
 first-zero zero u U h = refl
 first-zero (suc m) u U h = absurd (lt-irrefl 0 (subst (λ (z : ℕ). 0 < z) (sym (mul-one (suc m * u)) ∙ h) (mul-pos (lt→pos m) U)))
   where
     lt→pos : (m : ℕ) → 0 < suc m
     lt→pos m = omega arith
-
-two-up : (k : ℕ) → 2 ^ suc k ≡ 1 → ⊥
-two-up k h = more (2 ^ suc k) (2 ^ k) (two-pow-succ k) (pow-pos k) h
-  where
-    more : (a b : ℕ) → a ≡ b + b → 0 < b → a ≡ 1 → ⊥
-    more a b e p h = omega arith
-
--- a zero of the format has the exponent 0
-zero-exponent : (s : Bool) (e : ℤ) → T (fits binary64 (fin s 0 e)) → e ≡ pos 0
-unfolding fits
-zero-exponent s (pos zero) t = refl
-zero-exponent s (pos (suc k)) t = absurd (two-up k (sym (mul-one (2 ^ suc k)) ∙ eqb→eq (2 ^ suc k * 1) 1 t))
-zero-exponent s (negsuc k) t = absurd (two-up k (sym (one-mul (2 ^ suc k)) ∙ eqb→eq (1 * 2 ^ suc k) 1 t))
 
 pub abs-zero : (x : Float) → T (fits binary64 x) → eq x (fin false 0 (pos 0)) ≡ true → abs x ≡ fin false 0 (pos 0)
 unfolding abs eq

@@ -3,3 +3,4 @@ pub mod Numbers
 pub mod Constants
 pub mod Rounding
 pub mod Root
+pub mod NearestRoot
