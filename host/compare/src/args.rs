@@ -3,7 +3,7 @@ use cases::call::Call;
 use std::time::Duration;
 
 pub const USAGE: &str = "\
-compare [--cases N] [--seed S] [--call NAME]     N cases a call (20000; twelve times as many of sqrt)
+compare [--cases N] [--seed S] [--call NAME]     N cases a call (100,000; twelve times as many of sqrt)
 compare --seconds T [--seed S] [--call NAME]     rounds of cases until T seconds have passed
 compare --roots [--seed S]                       12,000,000 square roots, a million near a middle of two floats
 compare --call NAME --number N [--seed S]        one case, printed";
@@ -17,7 +17,7 @@ pub struct Args {
 }
 
 pub fn read() -> Result<Args, String> {
-    let mut args = Args { cases: 20_000, seed: 1, seconds: None, call: None, number: None };
+    let mut args = Args { cases: 100_000, seed: 1, seconds: None, call: None, number: None };
     let mut words = std::env::args().skip(1);
     while let Some(word) = words.next() {
         if word == "--roots" {

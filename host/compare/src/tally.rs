@@ -89,9 +89,9 @@ impl fmt::Display for Shown<'_> {
         writeln!(f, "  parameters {:x?}", case.params)?;
         show_list(f, "xs", &case.xs)?;
         show_list(f, "ys", &case.ys)?;
-        show_answer(f, "Rust  ", &expected::answer(case))?;
+        show_answer(f, "expected", &expected::answer(case))?;
         let said = rattle::answer(case);
-        show_answer(f, "Rattle", &said.answer)?;
+        show_answer(f, "Rattle  ", &said.answer)?;
         if said.stray {
             writeln!(f, "  Rattle wrote where it must not")?;
         }
