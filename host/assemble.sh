@@ -42,7 +42,10 @@ printf 'pub mod %s;\n' $modules | place "$out/openrdson-core/src/lib.rs"
 for crate in geometry meshing; do
     manifest "$crate" openrdson-core
     # The text itself, then one module: a module inside the crate sees its private functions.
-    { original "$crate/src/lib.rs" && printf '\n#[path = "reach.rs"]\npub mod reach;\n'; } | place "$out/$crate/src/lib.rs"
+    {
+        original "$crate/src/lib.rs"
+        printf '\n#[path = "reach.rs"]\npub mod reach;\n'
+    } | place "$out/$crate/src/lib.rs"
     cmp -n "$(wc -c < "$src/$crate/src/lib.rs")" "$src/$crate/src/lib.rs" "$out/$crate/src/lib.rs"
     place "$out/$crate/src/reach.rs" < "host/reach/$crate.rs"
 done
