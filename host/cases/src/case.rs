@@ -1,0 +1,108 @@
+//! One case of a call, and one answer to it, in the words of the recorded answers.
+use crate::call::Call;
+use crate::call::Call::*;
+use crate::random::Random;
+use crate::{boxes, numbers, rings, roots, solids};
+use std::borrow::Cow;
+
+/// A list of coordinates; the longest ones are made once and lent.
+pub type List = Cow<'static, [f64]>;
+
+/// What a call is given. Parameters are floats by their bits, or whole numbers:
+/// a box its six bounds; a prism z_bottom, z_top, start, count; a method of Bbox the four bounds,
+/// then the other box's or the point; a call on one number, that number.
+pub struct Case {
+    pub call: Call,
+    pub xs: List,
+    pub ys: List,
+    pub params: [u64; 8],
+}
+
+/// A status, and up to four values: floats by their bits, truths as 0 or 1, whole numbers as they are.
+#[derive(Clone, Copy, PartialEq, Debug)]
+pub struct Answer {
+    pub status: u32,
+    pub values: [u64; 4],
+}
+
+/// A float by its bits; every NaN is the same.
+pub fn word(x: f64) -> u64 {
+    if x.is_nan() { 0x7ff8000000000000 } else { x.to_bits() }
+}
+
+impl Answer {
+    pub fn refused(status: u32) -> Self {
+        Answer { status, values: [0; 4] }
+    }
+
+    pub fn floats(given: &[f64]) -> Self {
+        let mut values = [0; 4];
+        for (value, x) in values.iter_mut().zip(given) {
+            *value = word(*x);
+        }
+        Answer { status: 0, values }
+    }
+
+    pub fn whole(value: u64) -> Self {
+        Answer { status: 0, values: [value, 0, 0, 0] }
+    }
+}
+
+impl Case {
+    /// The case of this number; it depends on nothing else.
+    pub fn draw(call: Call, seed: u64, number: u64) -> Case {
+        let r = &mut Random::of_case(seed, call.number(), number);
+        match call {
+            PolygonSignedArea | PolygonArea | IsCcw | IsAxisAlignedRectangle | BboxFromPoints => {
+                let (xs, ys) = rings::lists(r, number);
+                Case { call, xs: xs.into(), ys: ys.into(), params: [0; 8] }
+            }
+            BoxVolume | BoxFootprintBbox => solids::boxed(call, r),
+            PrismVolume | PrismFootprintBbox => solids::prism(call, r, number),
+            Sqrt => Case::of_numbers(call, &[roots::draw(r, number)]),
+            Abs => Case::of_numbers(call, &[numbers::any(r)]),
+            CeilCapped | NearestCapped => Case::of_numbers(call, &[numbers::to_round(r)]),
+            CoordinateInRange | ExtentInRange | FigureInRange => Case::of_numbers(call, &[numbers::to_range(r)]),
+            BboxEmpty | BboxIsEmpty | BboxExtendPoint | BboxExtend | BboxUnion | BboxWidth | BboxHeight
+            | BboxCenter => Case::of_numbers(call, &boxes::pair(r)),
+            BoxZBottom | BoxZTop => {
+                let bounds: [f64; 6] = std::array::from_fn(|_| numbers::any(r));
+                Case::of_numbers(call, &bounds)
+            }
+            PrismZBottom | PrismZTop => {
+                let mut case = Case::of_numbers(call, &[numbers::any(r), numbers::any(r)]);
+                case.params[2] = r.word() as u32 as u64;
+                case.params[3] = r.word() as u32 as u64;
+                case
+            }
+        }
+    }
+
+    /// A case with no list.
+    fn of_numbers(call: Call, numbers: &[f64]) -> Case {
+        let mut params = [0; 8];
+        for (param, x) in params.iter_mut().zip(numbers) {
+            *param = x.to_bits();
+        }
+        Case { call, xs: List::Borrowed(&[]), ys: List::Borrowed(&[]), params }
+    }
+
+    pub fn float(&self, place: usize) -> f64 {
+        f64::from_bits(self.params[place])
+    }
+
+    /// The first parameters as floats.
+    pub fn floats<const N: usize>(&self) -> [f64; N] {
+        std::array::from_fn(|place| self.float(place))
+    }
+
+    /// A prism's start.
+    pub fn start(&self) -> u32 {
+        self.params[2] as u32
+    }
+
+    /// A prism's count.
+    pub fn count(&self) -> u32 {
+        self.params[3] as u32
+    }
+}

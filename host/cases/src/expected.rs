@@ -1,0 +1,94 @@
+//! What is expected of a case: a refusal of document 01, or else what the unchanged Rust answers.
+use crate::call::Call::*;
+use crate::case::{Answer, Case};
+use crate::paper;
+use oracle::core::geometry::*;
+
+pub fn answer(case: &Case) -> Answer {
+    match paper::status(case) {
+        0 => of_the_rust(case),
+        status => Answer::refused(status),
+    }
+}
+
+/// The Rust's answer to a case that is not refused.
+fn of_the_rust(case: &Case) -> Answer {
+    let x = case.float(0);
+    match case.call {
+        PolygonSignedArea => Answer::floats(&[polygon_signed_area(&ring(case))]),
+        PolygonArea => Answer::floats(&[polygon_area(&ring(case))]),
+        IsCcw => truth(is_ccw(&ring(case))),
+        IsAxisAlignedRectangle => truth(is_axis_aligned_rectangle(&ring(case))),
+        BboxFromPoints => bounds(Bbox::from_points(&ring(case))),
+        BoxVolume => Answer::floats(&[boxed(case).volume()]),
+        PrismVolume => Answer::floats(&[prism(case).volume()]),
+        BoxFootprintBbox => bounds(boxed(case).footprint_bbox()),
+        PrismFootprintBbox => bounds(prism(case).footprint_bbox()),
+        Sqrt => Answer::floats(&[x.sqrt()]),
+        Abs => Answer::floats(&[x.abs()]),
+        CeilCapped => Answer::whole(x.ceil() as u64),
+        NearestCapped => Answer::whole(x.round() as i64 as u64),
+        CoordinateInRange => truth(x.is_finite() && x.abs() <= 1_048_576.0),
+        ExtentInRange => truth(x.is_finite() && x.abs() <= 2_097_152.0),
+        FigureInRange => truth(x.is_finite() && x.abs() <= 524_288.0),
+        BboxEmpty => bounds(Bbox::empty()),
+        BboxIsEmpty => truth(bbox(case, 0).is_empty()),
+        BboxExtendPoint => {
+            let mut b = bbox(case, 0);
+            b.extend_point(Point::new(case.float(4), case.float(5)));
+            bounds(b)
+        }
+        BboxExtend => {
+            let mut b = bbox(case, 0);
+            b.extend(&bbox(case, 4));
+            bounds(b)
+        }
+        BboxUnion => bounds(bbox(case, 0).union(&bbox(case, 4))),
+        BboxWidth => Answer::floats(&[bbox(case, 0).width()]),
+        BboxHeight => Answer::floats(&[bbox(case, 0).height()]),
+        BboxCenter => {
+            let p = bbox(case, 0).center();
+            Answer::floats(&[p.x, p.y])
+        }
+        BoxZBottom => Answer::floats(&[boxed(case).z_bottom()]),
+        BoxZTop => Answer::floats(&[boxed(case).z_top()]),
+        PrismZBottom => Answer::floats(&[flat_prism(case).z_bottom()]),
+        PrismZTop => Answer::floats(&[flat_prism(case).z_top()]),
+    }
+}
+
+fn truth(value: bool) -> Answer {
+    Answer::whole(value as u64)
+}
+
+fn bounds(b: Bbox) -> Answer {
+    Answer::floats(&[b.min_x, b.min_y, b.max_x, b.max_y])
+}
+
+fn points(xs: &[f64], ys: &[f64]) -> Vec<Point> {
+    xs.iter().zip(ys).map(|(x, y)| Point::new(*x, *y)).collect()
+}
+
+fn ring(case: &Case) -> Vec<Point> {
+    points(&case.xs, &case.ys)
+}
+
+fn bbox(case: &Case, at: usize) -> Bbox {
+    Bbox { min_x: case.float(at), min_y: case.float(at + 1), max_x: case.float(at + 2), max_y: case.float(at + 3) }
+}
+
+fn boxed(case: &Case) -> Solid {
+    let [min_x, min_y, max_x, max_y, z_bottom, z_top] = case.floats();
+    Solid::Box { min_x, min_y, max_x, max_y, z_bottom, z_top }
+}
+
+fn prism(case: &Case) -> Solid {
+    let part = case.start() as usize..case.start() as usize + case.count() as usize;
+    let footprint = points(&case.xs[part.clone()], &case.ys[part]);
+    Solid::Prism { footprint, z_bottom: case.float(0), z_top: case.float(1) }
+}
+
+/// A prism of whose footprint nothing is asked.
+fn flat_prism(case: &Case) -> Solid {
+    Solid::Prism { footprint: vec![], z_bottom: case.float(0), z_top: case.float(1) }
+}

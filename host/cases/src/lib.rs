@@ -1,0 +1,13 @@
+//! The calls compared, their seeded cases, and what is expected of each case.
+pub mod call;
+pub mod case;
+pub mod expected;
+pub mod paper;
+
+mod boxes;
+mod numbers;
+mod random;
+mod rectangles;
+mod rings;
+mod roots;
+mod solids;

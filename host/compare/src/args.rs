@@ -1,0 +1,46 @@
+//! The command line.
+use cases::call::Call;
+use std::time::Duration;
+
+pub const USAGE: &str = "\
+compare [--cases N] [--seed S] [--call NAME]     N cases a call (100,000; twelve times as many of sqrt)
+compare --seconds T [--seed S] [--call NAME]     rounds of cases until T seconds have passed
+compare --roots [--seed S]                       12,000,000 square roots, a million near a middle of two floats
+compare --call NAME --number N [--seed S]        one case, printed";
+
+pub struct Args {
+    pub cases: u64,
+    pub seed: u64,
+    pub seconds: Option<Duration>,
+    pub call: Option<Call>,
+    pub number: Option<u64>,
+}
+
+pub fn read() -> Result<Args, String> {
+    let mut args = Args { cases: 100_000, seed: 1, seconds: None, call: None, number: None };
+    let mut words = std::env::args().skip(1);
+    while let Some(word) = words.next() {
+        if word == "--roots" {
+            args.call = Some(Call::Sqrt);
+            args.cases = 1_000_000;
+            continue;
+        }
+        let value = words.next().ok_or(format!("{word}: no value"))?;
+        match word.as_str() {
+            "--cases" => args.cases = whole(&value)?,
+            "--seed" => args.seed = whole(&value)?,
+            "--seconds" => args.seconds = Some(Duration::from_secs(whole(&value)?)),
+            "--call" => args.call = Some(Call::named(&value).ok_or(format!("no call {value}"))?),
+            "--number" => args.number = Some(whole(&value)?),
+            _ => return Err(format!("{word} is not known")),
+        }
+    }
+    if args.number.is_some() && args.call.is_none() {
+        return Err("--number asks for --call".into());
+    }
+    Ok(args)
+}
+
+fn whole(word: &str) -> Result<u64, String> {
+    word.parse().map_err(|_| format!("{word} is no whole number"))
+}

@@ -1,0 +1,115 @@
+//! What came of the cases of one call.
+use cases::call::{Call, Gives};
+use cases::case::{Answer, Case};
+use cases::expected;
+use std::fmt;
+
+/// Mismatches of a call that are printed.
+const PRINTED: u64 = 5;
+
+/// Cases after which a refusal that was never drawn is a failure.
+const ENOUGH: u64 = 1000;
+
+pub struct Tally {
+    pub call: Call,
+    cases: u64,
+    by_status: [u64; 17],
+    truths: u64,
+    mismatches: u64,
+}
+
+impl Tally {
+    pub fn new(call: Call) -> Self {
+        Tally { call, cases: 0, by_status: [0; 17], truths: 0, mismatches: 0 }
+    }
+
+    /// Runs these cases on both sides.
+    pub fn run(&mut self, seed: u64, numbers: std::ops::Range<u64>) {
+        for number in numbers {
+            let case = Case::draw(self.call, seed, number);
+            let expected = expected::answer(&case);
+            let said = rattle::answer(&case);
+            self.count(&expected);
+            if said.answer != expected || said.stray {
+                self.mismatches += 1;
+                if self.mismatches <= PRINTED {
+                    print!("MISMATCH {}", Shown { case: &case, seed, number });
+                }
+            }
+        }
+    }
+
+    fn count(&mut self, expected: &Answer) {
+        self.cases += 1;
+        self.by_status[expected.status as usize] += 1;
+        if expected.status == 0 && expected.values[0] == 1 {
+            self.truths += 1;
+        }
+    }
+
+    fn never_drawn(&self) -> bool {
+        self.call.refusals().iter().any(|refusal| self.by_status[*refusal as usize] == 0)
+    }
+
+    pub fn failed(&self) -> bool {
+        self.mismatches > 0 || self.cases >= ENOUGH && self.never_drawn()
+    }
+}
+
+impl fmt::Display for Tally {
+    fn fmt(&self, f: &mut fmt::Formatter) -> fmt::Result {
+        write!(f, "{:26}{:9} cases;  0: {}", self.call.name(), self.cases, self.by_status[0])?;
+        if self.call.gives() == Gives::Truth {
+            write!(f, " ({} true)", self.truths)?;
+        }
+        for refusal in self.call.refusals() {
+            write!(f, "  {refusal}: {}", self.by_status[*refusal as usize])?;
+        }
+        if self.mismatches > 0 {
+            write!(f, "  MISMATCHES: {}", self.mismatches)?;
+        }
+        if self.failed() && self.never_drawn() {
+            write!(f, "  A REFUSAL WAS NEVER DRAWN")?;
+        }
+        Ok(())
+    }
+}
+
+/// A case with its input by bits, and what each side says.
+pub struct Shown<'a> {
+    pub case: &'a Case,
+    pub seed: u64,
+    pub number: u64,
+}
+
+impl fmt::Display for Shown<'_> {
+    fn fmt(&self, f: &mut fmt::Formatter) -> fmt::Result {
+        let case = self.case;
+        writeln!(f, "compare --call {} --seed {} --number {}", case.call.name(), self.seed, self.number)?;
+        writeln!(f, "  parameters {:x?}", case.params)?;
+        show_list(f, "xs", &case.xs)?;
+        show_list(f, "ys", &case.ys)?;
+        show_answer(f, "expected", &expected::answer(case))?;
+        let said = rattle::answer(case);
+        show_answer(f, "Rattle  ", &said.answer)?;
+        if said.stray {
+            writeln!(f, "  Rattle wrote where it must not")?;
+        }
+        Ok(())
+    }
+}
+
+/// Past 1,024 entries only the length is shown.
+fn show_list(f: &mut fmt::Formatter, name: &str, list: &[f64]) -> fmt::Result {
+    write!(f, "  {name}: {}:", list.len())?;
+    if list.len() <= 1024 {
+        for x in list {
+            write!(f, " {:x}", x.to_bits())?;
+        }
+    }
+    writeln!(f)
+}
+
+fn show_answer(f: &mut fmt::Formatter, who: &str, answer: &Answer) -> fmt::Result {
+    writeln!(f, "  {who} status {} values {:x?}", answer.status, answer.values)
+}

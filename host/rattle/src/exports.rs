@@ -1,0 +1,71 @@
+//! The C functions of crates/c_api. A list is its first entry's address and its length.
+
+#[repr(C)]
+#[derive(Clone, Copy)]
+pub struct Point {
+    pub x: f64,
+    pub y: f64,
+}
+
+#[repr(C)]
+#[derive(Clone, Copy)]
+pub struct Bbox {
+    pub min_x: f64,
+    pub min_y: f64,
+    pub max_x: f64,
+    pub max_y: f64,
+}
+
+type List = *const f64;
+type Out = *mut f64;
+
+extern "C" {
+    pub fn openrdson_polygon_signed_area(xs: List, nx: usize, ys: List, ny: usize, area: Out) -> u32;
+    pub fn openrdson_polygon_area(xs: List, nx: usize, ys: List, ny: usize, area: Out) -> u32;
+    pub fn openrdson_is_ccw(xs: List, nx: usize, ys: List, ny: usize, ccw: *mut bool) -> u32;
+    pub fn openrdson_is_axis_aligned_rectangle(xs: List, nx: usize, ys: List, ny: usize, rectangle: *mut bool) -> u32;
+    pub fn openrdson_bbox_from_points(
+        xs: List, nx: usize, ys: List, ny: usize,
+        min_x: Out, min_y: Out, max_x: Out, max_y: Out,
+    ) -> u32;
+
+    pub fn openrdson_bbox_empty() -> Bbox;
+    pub fn openrdson_bbox_is_empty(b: Bbox) -> bool;
+    pub fn openrdson_bbox_extend_point(b: Bbox, p: Point) -> Bbox;
+    pub fn openrdson_bbox_extend(b: Bbox, other: Bbox) -> Bbox;
+    pub fn openrdson_bbox_union(b: Bbox, other: Bbox) -> Bbox;
+    pub fn openrdson_bbox_width(b: Bbox) -> f64;
+    pub fn openrdson_bbox_height(b: Bbox) -> f64;
+    pub fn openrdson_bbox_center(b: Bbox) -> Point;
+
+    pub fn openrdson_box_volume(
+        min_x: f64, min_y: f64, max_x: f64, max_y: f64, z_bottom: f64, z_top: f64,
+        xs: List, nx: usize, ys: List, ny: usize, volume: Out,
+    ) -> u32;
+    pub fn openrdson_prism_volume(
+        z_bottom: f64, z_top: f64, start: u32, count: u32,
+        xs: List, nx: usize, ys: List, ny: usize, volume: Out,
+    ) -> u32;
+    pub fn openrdson_box_footprint_bbox(
+        min_x: f64, min_y: f64, max_x: f64, max_y: f64, z_bottom: f64, z_top: f64,
+        xs: List, nx: usize, ys: List, ny: usize,
+        out_min_x: Out, out_min_y: Out, out_max_x: Out, out_max_y: Out,
+    ) -> u32;
+    pub fn openrdson_prism_footprint_bbox(
+        z_bottom: f64, z_top: f64, start: u32, count: u32,
+        xs: List, nx: usize, ys: List, ny: usize,
+        min_x: Out, min_y: Out, max_x: Out, max_y: Out,
+    ) -> u32;
+    pub fn openrdson_box_z_bottom(min_x: f64, min_y: f64, max_x: f64, max_y: f64, z_bottom: f64, z_top: f64) -> f64;
+    pub fn openrdson_box_z_top(min_x: f64, min_y: f64, max_x: f64, max_y: f64, z_bottom: f64, z_top: f64) -> f64;
+    pub fn openrdson_prism_z_bottom(z_bottom: f64, z_top: f64, start: u32, count: u32) -> f64;
+    pub fn openrdson_prism_z_top(z_bottom: f64, z_top: f64, start: u32, count: u32) -> f64;
+
+    pub fn openrdson_sqrt(x: f64) -> f64;
+    pub fn openrdson_abs(x: f64) -> f64;
+    pub fn openrdson_ceil_capped(x: f64) -> u64;
+    pub fn openrdson_nearest_capped(x: f64) -> i64;
+    pub fn openrdson_coordinate_in_range(x: f64) -> bool;
+    pub fn openrdson_extent_in_range(x: f64) -> bool;
+    pub fn openrdson_figure_in_range(x: f64) -> bool;
+}

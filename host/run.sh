@@ -1,0 +1,13 @@
+#!/usr/bin/env bash
+# Compares Rattle with the unchanged Rust: the gate's share, or what the arguments ask of `compare`.
+set -euo pipefail
+cd "$(dirname "$0")/.."
+export CARGO_TARGET_DIR="$PWD/target/cargo"
+host/assemble.sh
+# An archive of an earlier run would hide a crate that is no longer proved.
+rm -rf target/staticlib
+rt staticlib c_api
+cd host
+cargo build --quiet --release --offline --locked
+"$CARGO_TARGET_DIR/release/record" --check
+"$CARGO_TARGET_DIR/release/compare" "$@"
