@@ -1,14 +1,13 @@
 -- No binary64 number is nearer to the root of a number above zero than its rounded root: the neighbours of the rounded root are past the middles. Assumes nothing.
-use mathlib.Core.Path.{_≡_, refl, sym, ap, _∙_, subst}
-use mathlib.Core.Logic.{_⊎_, inl, inr}
-use Prim.Native.Nat.{ℕ, zero, suc, _+_, _-_, _*_, _/_, _%_, _^_, _≤_, _<_}
-use native.Mathlib.Nat.{le-refl, le-trans, le-of-eq, le-of-lt, lt-of-lt-of-le, lt-of-le-of-lt, lt-of-not-le, not-le-of-lt, eq-or-lt-of-le, le-of-suc-le-suc, mul-one, one-mul, mul-comm, mul-assoc, mul-left-comm, mul-right-comm, mul-pos, mul-le-mul, mul-le-mul-right, mul-le-mul-left, mul-lt-mul-of-pos-right, mul-mul-mul-comm, lt-of-mul-lt-mul-right, eq-of-mul-eq-mul-right, sub-add-cancel, le-of-mul-le-mul-right, mod-lt}
+use mathlib.Core.Path.{_≡_, sym, ap, _∙_, subst}
+use mathlib.Core.Logic.{inl, inr}
+use Prim.Native.Nat.{ℕ, suc, _+_, _-_, _*_, _/_, _%_, _^_, _≤_, _<_}
+use native.Mathlib.Nat.{le-trans, le-of-eq, le-of-lt, lt-of-lt-of-le, lt-of-le-of-lt, lt-of-not-le, not-le-of-lt, eq-or-lt-of-le, le-of-suc-le-suc, mul-assoc, mul-right-comm, mul-le-mul, mul-le-mul-right, mul-lt-mul-of-pos-right, mul-mul-mul-comm, lt-of-mul-lt-mul-right, eq-of-mul-eq-mul-right, sub-add-cancel, le-of-mul-le-mul-right}
 use native.Mathlib.Decide.{decLe}
 use native.Mathlib.Omega.{arith}
-use mathlib.Core.Bool.{Bool, true, false}
-use lib.Dec.{T, lit≤}
-use lib.Pow.{pow-pos, pow-add, pow-mono, pow-lt}
-use lib.IntN.{ℤ}
+use mathlib.Core.Bool.{false}
+use lib.Dec.{T}
+use lib.Pow.{pow-pos, pow-add, pow-mono}
 use lib.Ieee.{Float, nan, inf, fin, binary64, up, down, size, fits, toBits}
 use lib.Ieee.Digits.{size-lt, size-le, size-reaches}
 use lib.Ieee.Exact.{HasValue}
@@ -17,9 +16,9 @@ use lib.Ieee.Fits.{down-pos}
 use Rattle.binary64.specs.Root.{root}
 use Rattle.binary64.specs.NearestRoot.{NearestRoot}
 use Rattle.binary64.proofs.WholeRoots.{IsRoot, root-is}
-use Rattle.binary64.proofs.RoundedRoots.{R-lo, half-lo, half-hi, four-pow}
+use Rattle.binary64.proofs.RoundedRoots.{R-lo, half-lo, four-pow}
 use Rattle.binary64.proofs.Values.{digits, place}
-use Rattle.binary64.proofs.Patterns.{mantissa, pattern-of, Scale, scale-of, sqrt-value}
+use Rattle.binary64.proofs.Patterns.{mantissa, pattern-of, scale-of, sqrt-value}
 
 -- ---- a number of the format that is not negative is a whole number of units, of at most 53 digits and then zeros
 pub record Units (Y : ℕ) : Type 0 where
@@ -198,15 +197,11 @@ even m e h l f =
     most z e h f = omega arith
 
 -- ---- the theorem
-few-digits : (X d : ℕ) → d < 2 ^ 52 → mantissa X d < 2 ^ 53
-few-digits zero d h = omega arith
-few-digits (suc X) d h = omega arith
-
 pub nearest-root : (x : Float) → T (fits binary64 x) → T (positive x) → NearestRoot x
 nearest-root x f p =
     let b = toBits binary64 x in
     let w = scale-of x b (pattern-of x f p) in
-    let v = even (mantissa (b / 2 ^ 52) (b % 2 ^ 52)) (b / 2 ^ 52 - 1 + 126) (few-digits (b / 2 ^ 52) (b % 2 ^ 52) (mod-lt b (pow-pos 52))) (w .least) (w .far) in
+    let v = even (mantissa (b / 2 ^ 52) (b % 2 ^ 52)) (b / 2 ^ 52 - 1 + 126) (w .small) (w .least) (w .far) in
     let W : w .U * 2 ^ 126 ≡ v .M * 2 ^ 54 * 4 ^ (v .t) = sym (w .same) ∙ v .same in
     let R = root (v .M * 2 ^ 54) in
     let n = nearest (w .U) (v .M) (v .t) R W (v .lo) (v .hi) (root-is (v .M * 2 ^ 54)) in

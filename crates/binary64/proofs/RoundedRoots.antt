@@ -1,16 +1,16 @@
 -- The rounded root from a root of 54 binary digits: with R the root of M * 4 ^ 27, the root of M * 4 ^ h / 4 ^ 600 rounds to (R + 1) / 2, cut, times 2 ^ (h - 626).
 -- No number is halfway between two floats: an odd R is no exact root. Assumes nothing.
 use mathlib.Core.Path.{_≡_, refl, sym, ap, _∙_, subst}
-use mathlib.Core.Logic.{_⊎_, inl, inr}
+use mathlib.Core.Logic.{inl, inr}
 use Prim.Native.Nat.{ℕ, zero, suc, _+_, _-_, _*_, _/_, _%_, _^_, _≤_, _<_, compare, Ordering, Ordering·lt, Ordering·eq, Ordering·gt}
-use native.Mathlib.Nat.{le-refl, le-trans, le-of-eq, lt-of-lt-of-le, lt-of-le-of-lt, lt-of-not-le, not-le-of-lt, le-antisymm, le-of-suc-le-suc, mul-one, one-mul, mul-comm, mul-assoc, mul-left-comm, mul-right-comm, mul-le-mul, mul-le-mul-right, mul-lt-mul-of-pos-right, mul-mul-mul-comm, mul-pos, mul-div-cancel, div-eq-of-lt-le, eq-of-mul-eq-mul-right, eq-zero-or-pos, add-mul, pow-suc}
+use native.Mathlib.Nat.{le-trans, le-of-eq, lt-of-lt-of-le, lt-of-le-of-lt, lt-of-not-le, not-le-of-lt, le-antisymm, mul-assoc, mul-left-comm, mul-le-mul-right, mul-lt-mul-of-pos-right, mul-mul-mul-comm, mul-pos, mul-div-cancel, eq-of-mul-eq-mul-right, eq-zero-or-pos, pow-suc}
 use native.Mathlib.Omega.{arith}
 use mathlib.Core.Bool.{Bool, true, false, not, cond}
 use lib.Dec as Dec
-use lib.Dec.{T, isLe, isEq, leb, eqb, leb→le, nleb→lt, eqb→eq, eqb-refl, lit≤}
+use lib.Dec.{T, isLe, isEq, eqb, leb→le, nleb→lt, eqb→eq}
 use lib.Pow.{pow-pos, pow-add, pow-mono, pow-lt}
 use lib.Arith.{digits-div, digits-mod}
-use lib.Ieee.{Float, nan, inf, fin, binary64, size, nearest, units, round}
+use lib.Ieee.{Float, binary64, size, nearest, units, round}
 use lib.Ieee.Digits.{size-lt, size-le}
 use lib.Ieee.Fits.{core, round-is}
 use lib.Ieee.Exact.{HasValue, units-val}

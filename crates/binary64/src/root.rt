@@ -25,48 +25,61 @@ fn normalised(m0: u64, e0: u64) -> Scaled
     Scaled { m, e }
 }
 
-// A root so far, and what is left of the number beyond its square.
-struct RootSoFar {
-    pub root: u64,
-    pub rest: u64,
-}
-
-// One binary digit more of a root, from two more of the number.
-fn root_step(root: u64, rest: u64, digits: u64) -> RootSoFar
-    requires { ⌜ (root < 2 ^ 54) × (rest ≤ root * 2) × (digits < 4) ⌝ }
-    ensures { λ r. ⌜ (r .root * r .root + r .rest ≡ (root * root + rest) * 4 + digits) × (r .rest ≤ r .root * 2) × (r .root ≤ root * 2 + 1) ⌝ }
+// The root of n, for an n of 2^62 and more, by three turns of Heron's rule from a straight line. Nothing is proved of how near it is: it saves turns in `root_and_rest`.
+fn estimated_root(n: u64) -> u64
+    ensures { λ r. ⌜ r < 2 ^ 32 ⌝ }
 {
-    let more = rest * 4 + digits;
-    let trial = root * 4 + 1;
-    if trial <= more {
-        return RootSoFar {
-            root: root * 2 + 1,
-            rest: more - trial,
-        };
+    let f = (n / 4096) as f64;
+    let y0 = f * 9.934e-9 + 2.349e7;
+    let y1 = (y0 + f / y0) * 0.5;
+    let y2 = (y1 + f / y1) * 0.5;
+    let y3 = (y2 + f / y2) * 32.0;
+    if y3 > -1.0 {
+        if y3 < 18446744073709551616.0 {
+            let t = std::num::truncating_f64_to_u64(y3);
+            if t < 4294967296 {
+                return t;
+            }
+        }
     }
-    RootSoFar {
-        root: root * 2,
-        rest: more,
-    }
+    4294967295
 }
 
-// The root of m * 4^27, cut to a whole number: one binary digit a turn.
+// A root cut to a whole number, and what the number is beyond its square.
+struct RootAndRest {
+    root: u64,
+    rest: u64,
+}
+
+fn root_and_rest(n: u64) -> RootAndRest
+    ensures { λ r. ⌜ (r .root * r .root + r .rest ≡ n) × (r .rest ≤ r .root * 2) ⌝ }
+{
+    let mut root = estimated_root(n);
+    while root * root > n {
+        root = root - 1;
+    }
+    let mut rest = n - root * root;
+    while rest > root * 2 {
+        rest = rest - root * 2 - 1;
+        root = root + 1;
+    }
+    RootAndRest { root, rest }
+}
+
+// The root of m * 4^27, cut to a whole number: the first 32 binary digits are the root of m * 4^5, the other 22 are found by a division, at most 1 too large.
 fn whole_root(m: u64) -> u64
-    requires { ⌜ m < 2 ^ 54 ⌝ }
+    requires { ⌜ (2 ^ 52 ≤ m) × (m < 2 ^ 54) ⌝ }
     ensures { λ r. ⌜ (r * r ≤ m * 2 ^ 54) × (m * 2 ^ 54 < (r + 1) * (r + 1)) ⌝ }
 {
-    let mut left = m * 1024;
-    let mut root: u64 = 0;
-    let mut rest: u64 = 0;
-    let mut i: u64 = 0;
-    while i < 54 {
-        let s = root_step(root, rest, left / 4611686018427387904);
-        left = left % 4611686018427387904 * 4;
-        root = s.root;
-        rest = s.rest;
-        i += 1;
+    let first = root_and_rest(m * 1024);
+    let more = first.rest * 4194304;
+    let q = more / (first.root * 2);
+    let u = more % (first.root * 2);
+    let r = first.root * 4194304 + q;
+    if u * 4194304 < q * q {
+        return r - 1;
     }
-    root
+    r
 }
 
 // The root of a number that is finite and above zero.

@@ -1,24 +1,20 @@
 -- `sqrt` meets its contract: what is not a number above zero has the root that the definition says. Assumes nothing.
 use borrow.Author.Needs.{needs}
-use borrow.Author.Tests.{eqb-true, eqb-false, ltb-true, ltb-false}
+use borrow.Author.Tests.{ltb-true}
 use mathlib.Core.Path.{_≡_, refl, sym, ap, _∙_, subst}
-use mathlib.Core.Bool.{Bool, true, false, not, _&&_, _||_, Bool·beq}
-use Prim.Native.Nat.{ℕ, zero, suc, _+_, _*_, _≤_, _<_}
-use native.Mathlib.Nat.{zero-mul, mul-one, mul-pos, zero-lt-suc, lt-irrefl}
+use mathlib.Core.Bool.{true, false}
+use Prim.Native.Nat.{ℕ, zero, suc, _+_, _*_, _<_}
+use native.Mathlib.Nat.{suc-ne-zero, zero-mul, zero-lt-suc}
 use native.Mathlib.Omega.{arith}
-use lib.Dec.{T, eqb, ltb, eqb→eq, eqb-refl, lt→ltb}
-use lib.IntN.{ℤ, pos}
-use lib.Ieee.{Float, nan, inf, fin, up, down, ne, eq, lt, div, round, ofBits}
+use lib.Dec.{T, lt→ltb}
+use lib.IntN.{pos}
+use lib.Ieee.{Float, nan, inf, fin, up, down, ne, eq, lt, div, ofBits}
 use lib.Ieee.Compare.{differs-from-itself}
-use lib.Ieee.Fits.{and-l, up-pos}
 use lib.Ieee.Positive.{positive}
 use Rattle.binary64.specs.Root.{sqrtOf}
+use Rattle.binary64.proofs.Sizes.{plus-not-below, minus-either, is-zero, zero-digits}
 use Rattle.binary64.proofs.root.sqrt.Statement.{statement}
 use Rattle.binary64.proofs.root.sqrt.Tie as tie
-
--- the size of `suc m` is not zero
-some : (m : ℕ) (e : ℤ) → suc m * up e * 1 ≡ 0 → ⊥
-some m e h = lt-irrefl 0 (subst (λ (z : ℕ). 0 < z) (sym (mul-one (suc m * up e)) ∙ h) (mul-pos (zero-lt-suc m) (up-pos e)))
 
 of-nan : (x : Float) → x ≡ nan → x ≡ sqrtOf x
 unfolding sqrtOf
@@ -29,7 +25,7 @@ unfolding sqrtOf eq
 of-zero nan h = refl
 of-zero (inf s) h = absurd (subst T (sym h) tt)
 of-zero (fin s zero e) h = refl
-of-zero (fin s (suc m) e) h = absurd (some m e (eqb→eq (suc m * up e * 1) (0 * 1 * down e) (and-l (eqb (suc m * up e * 1) (0 * 1 * down e)) (Bool·beq s false || eqb (suc m * up e * 1) 0) (subst T (sym h) tt)) ∙ zero-mul (down e)))
+of-zero (fin s (suc m) e) h = absurd (suc-ne-zero m (zero-digits s (suc m) e h))
 
 of-minus : (x : Float) → lt x (fin false 0 (pos 0)) ≡ true → nan ≡ sqrtOf x
 unfolding sqrtOf lt
@@ -41,10 +37,7 @@ of-minus (fin true zero e) h = absurd (none (0 * up e) (0 * down e) (zero-mul (u
     none : (a b : ℕ) → a ≡ 0 → b ≡ 0 → 0 < a * 1 + b → ⊥
     none a b p q h = omega arith
 of-minus (fin true (suc m) e) h = refl
-of-minus (fin false m e) h = absurd (none (m * up e * 1) (0 * 1 * down e) (zero-mul (down e)) (ltb-true (m * up e * 1) (0 * 1 * down e) h))
-  where
-    none : (n z : ℕ) → z ≡ 0 → n < z → ⊥
-    none n z e h = omega arith
+of-minus (fin false m e) h = absurd (plus-not-below m e h)
 
 of-infinity : (x : Float) → eq x (inf false) ≡ true → x ≡ sqrtOf x
 unfolding sqrtOf eq
@@ -59,15 +52,8 @@ unfolding ne eq lt
 above nan a b c d = absurd (subst T a tt)
 above (inf true) a b c d = absurd (subst T c tt)
 above (inf false) a b c d = absurd (subst T d tt)
-above (fin true m e) a b c d =
-    let A = m * up e * 1 in
-    let z : 0 * 1 * down e ≡ 0 = zero-mul (down e) in
-    let n : A ≡ 0 = none A (0 * 1 * down e) (ltb-false 0 (A + 0 * 1 * down e) c) in
-    absurd (subst T (ap (λ (k : ℕ). eqb k (0 * 1 * down e) && (false || eqb k 0)) (sym n) ∙ b) (subst (λ (k : ℕ). T (eqb 0 k && true)) (sym z) tt))
-  where
-    none : (a b : ℕ) → a + b ≤ 0 → a ≡ 0
-    none a b h = omega arith
-above (fin false zero e) a b c d = absurd (subst T (ap (λ (k : ℕ). eqb (k * 1) (0 * 1 * down e) && (true || eqb (k * 1) 0)) (sym (zero-mul (up e))) ∙ b) (subst (λ (k : ℕ). T (eqb 0 k && true)) (sym (zero-mul (down e))) tt))
+above (fin true m e) a b c d = absurd (minus-either m e c b)
+above (fin false zero e) a b c d = absurd (subst T (sym (is-zero false zero e (zero-mul (up e))) ∙ b) tt)
 above (fin false (suc m) e) a b c d = lt→ltb 0 (suc m) (zero-lt-suc m)
 
 returns : tie.Need-returns
