@@ -19,7 +19,7 @@ pub record IsRoot (n r : ℕ) : Type 0 where
 pub square-lt : (x y : ℕ) → x * x < y * y → x < y
 square-lt x y h = lt-of-not-le (λ (g : y ≤ x). not-le-of-lt h (mul-le-mul g g))
 
-less-one : (x y : ℕ) → x < y + 1 → x ≤ y
+pub less-one : (x y : ℕ) → x < y + 1 → x ≤ y
 less-one x y h = omega arith
 
 pub root-unique : (n a b : ℕ) → IsRoot n a → IsRoot n b → a ≡ b

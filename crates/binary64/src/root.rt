@@ -5,13 +5,13 @@ ghost use lib.Dec.{T};
 ghost use lib.Ieee.Positive.{positive};
 ghost use Rattle.binary64.specs.Root.{sqrtOf};
 
-// m * 2^e, with m of 53 binary digits.
+// The number m * 2^e.
 struct Scaled {
-    pub m: u64,
-    pub e: u64,
+    m: u64,
+    e: u64,
 }
 
-// The number m * 2^e with an m of 53 binary digits.
+// m0 * 2^e0 with an m of 53 binary digits.
 fn normalised(m0: u64, e0: u64) -> Scaled
     requires { ⌜ (m0 < 2 ^ 53) × (2 ^ 53 ≤ m0 * 2 ^ e0) ⌝ }
     ensures { λ r. ⌜ (r .m * 2 ^ (r .e) ≡ m0 * 2 ^ e0) × (2 ^ 52 ≤ r .m) × (r .m < 2 ^ 53) × (r .e ≤ e0) ⌝ }
@@ -25,7 +25,8 @@ fn normalised(m0: u64, e0: u64) -> Scaled
     Scaled { m, e }
 }
 
-// The root of n, for an n of 2^62 and more, by three turns of Heron's rule from a straight line. Nothing is proved of how near it is: it saves turns in `root_and_rest`.
+// About the root of n, for an n of 2^62 or more: three turns of Heron's rule, from the line f / (3 * 2^25) + 0.7 * 2^25.
+// Only its range is proved. How near it is decides how often the loops of `root_and_rest` turn.
 fn estimated_root(n: u64) -> u64
     ensures { λ r. ⌜ r < 2 ^ 32 ⌝ }
 {
@@ -45,12 +46,13 @@ fn estimated_root(n: u64) -> u64
     4294967295
 }
 
-// A root cut to a whole number, and what the number is beyond its square.
+// A root cut to a whole number, and what the number has beyond its square.
 struct RootAndRest {
     root: u64,
     rest: u64,
 }
 
+// The root of n: the estimate, corrected.
 fn root_and_rest(n: u64) -> RootAndRest
     ensures { λ r. ⌜ (r .root * r .root + r .rest ≡ n) × (r .rest ≤ r .root * 2) ⌝ }
 {
@@ -66,7 +68,7 @@ fn root_and_rest(n: u64) -> RootAndRest
     RootAndRest { root, rest }
 }
 
-// The root of m * 4^27, cut to a whole number: the first 32 binary digits are the root of m * 4^5, the other 22 are found by a division, at most 1 too large.
+// The root of m * 4^27, cut to a whole number: its first 32 binary digits are the root of m * 4^5, and the other 22 are a quotient, or one less.
 fn whole_root(m: u64) -> u64
     requires { ⌜ (2 ^ 52 ≤ m) × (m < 2 ^ 54) ⌝ }
     ensures { λ r. ⌜ (r * r ≤ m * 2 ^ 54) × (m * 2 ^ 54 < (r + 1) * (r + 1)) ⌝ }
@@ -82,7 +84,7 @@ fn whole_root(m: u64) -> u64
     r
 }
 
-// The root of a number that is finite and above zero.
+// The root of a number that is finite and above zero. x * 4^600 is m * 2^e, by the fields of its bits; with e even, its root has the digits of m's root and half the exponent.
 fn root_above_zero(x: f64) -> f64
     requires { ⌜ T (positive x) ⌝ }
     ensures { λ r. ⌜ r ≡ sqrtOf x ⌝ }
@@ -101,21 +103,18 @@ fn root_above_zero(x: f64) -> f64
     f64::from_bits((half + 448) * 4503599627370496 + (r / 2 + r % 2))
 }
 
-// The square root, rounded once.
+// The square root, rounded once, as Rust's `sqrt`.
 pub fn sqrt(x: f64) -> f64
     ensures { λ r. ⌜ r ≡ sqrtOf x ⌝ }
 {
-    if x != x {
-        return x;
+    if x > 0.0 {
+        if x == 1.0 / 0.0 {
+            return x;
+        }
+        return root_above_zero(x);
     }
     if x == 0.0 {
         return x;
     }
-    if x < 0.0 {
-        return 0.0 / 0.0;
-    }
-    if x == 1.0 / 0.0 {
-        return x;
-    }
-    root_above_zero(x)
+    0.0 / 0.0
 }
