@@ -47,12 +47,7 @@ double-exact m e t h =
     (num-is m (up e) d (2 ^ 1074) J (p .1) ∙ ap (λ (z : ℕ). m * z * (d * d)) (sym (two-pow-succ (p .0)))))
   where
     scaled : (x d : ℕ) → (x * d + x * d) * d ≡ x * 2 * (d * d)
-    scaled x d = sym (mul-assoc-l x d) where
-      twice : (a : ℕ) → a + a ≡ a * 2
-      twice a = omega arith
-
-      mul-assoc-l : (x d : ℕ) → x * 2 * (d * d) ≡ (x * d + x * d) * d
-      mul-assoc-l x d = sym (mul-assoc (x * 2) d d) ∙ ap (λ (z : ℕ). z * d) (mul-right-comm x 2 d ∙ sym (twice (x * d)))
+    scaled x d = omega arith
 
 -- ---- n / d rounded, from 2 * n / d cut to a whole number
 half-up : (n d : ℕ) → 0 < d → quotientHalfUp n d ≡ n * 2 / d / 2 + n * 2 / d % 2
