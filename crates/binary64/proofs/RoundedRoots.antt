@@ -16,7 +16,7 @@ use lib.Ieee.Fits.{core, round-is}
 use lib.Ieee.Exact.{HasValue, units-val}
 use lib.Ieee.Nearest.{closest, closest-same}
 use Rattle.binary64.specs.Root.{root, rootRounded}
-use Rattle.binary64.proofs.WholeRoots.{IsRoot, square-lt, less-one, root-is, Longer, longer}
+use Rattle.binary64.proofs.WholeRoots.{IsRoot, square-lt, less-one, odd-square, root-is, Longer, longer}
 
 -- ---- to the nearest, off a tie
 module _ (q x y : ℕ) where
@@ -204,7 +204,7 @@ module _ (n d M t R : ℕ) (D : 0 < d) (W : M * 2 ^ 54 * 4 ^ t * d ≡ n * 4 ^ 6
 
   -- an odd R is no exact root, since M * 2 ^ 54 is even
   no-tie : R % 2 ≡ 1 → 0 < parts .rest + s
-  no-tie o = elim (eq-zero-or-pos (parts .rest + s)) [ inl z ↦ absurd (odd-square R M o (eq-of-mul-eq-mul-right (2 ^ t * 2 ^ t) (mul-pos (pow-pos t) (pow-pos t)) (R * R) (M * 2 ^ 54) (exact z))) | inr p ↦ p ]
+  no-tie o = elim (eq-zero-or-pos (parts .rest + s)) [ inl z ↦ absurd (odd-square (R / 2) M (sym (ap (λ (z : ℕ). z * z) (halves R o)) ∙ eq-of-mul-eq-mul-right (2 ^ t * 2 ^ t) (mul-pos (pow-pos t) (pow-pos t)) (R * R) (M * 2 ^ 54) (exact z))) | inr p ↦ p ]
     where
       both-l : (a b : ℕ) → a + b ≡ 0 → a ≡ 0
       both-l a b h = omega arith
@@ -220,14 +220,8 @@ module _ (n d M t R : ℕ) (D : 0 < d) (W : M * 2 ^ 54 * 4 ^ t * d ≡ n * 4 ^ 6
           let e : r ≡ R * 2 ^ t = parts .is ∙ ap (λ (k : ℕ). R * 2 ^ t + k) (both-l (parts .rest) s z) ∙ drop0 (R * 2 ^ t) in
           sym (mul-mul-mul-comm R (2 ^ t) R (2 ^ t)) ∙ sym (ap (λ (k : ℕ). k * k) e) ∙ s-zero (both-r (parts .rest) s z)
 
-      odd-square : (R M : ℕ) → R % 2 ≡ 1 → R * R ≡ M * 2 ^ 54 → ⊥
-      odd-square R M o h = let k = R / 2 in let e : R ≡ R / 2 * 2 + 1 = halves R o in again (R / 2) M (sym (ap (λ (z : ℕ). z * z) e) ∙ h)
-        where
-          halves : (R : ℕ) → R % 2 ≡ 1 → R ≡ R / 2 * 2 + 1
-          halves R o = omega arith
-
-          again : (k M : ℕ) → (k * 2 + 1) * (k * 2 + 1) ≡ M * 2 ^ 54 → ⊥
-          again k M h = omega arith
+      halves : (R : ℕ) → R % 2 ≡ 1 → R ≡ R / 2 * 2 + 1
+      halves R o = omega arith
 
   a-lo : 2 ^ (54 + t) ≤ r * 2 + s
   a-lo = le-trans (le-of-eq (pow-add 2 54 t)) (go r s (R * 2 ^ t) (parts .rest) (2 ^ t) (parts .is) (mul-le-mul-right (2 ^ t) (R-lo M R lo hi is)))

@@ -1,7 +1,7 @@
 -- Whole roots: `root n` is the one r with r * r ≤ n < (r + 1) * (r + 1), and a root to fewer digits is that root cut. Nothing here is about floats. Assumes nothing.
 use mathlib.Core.Path.{_≡_, refl, sym, subst}
-use Prim.Native.Nat.{ℕ, zero, suc, _+_, _-_, _*_, _/_, _%_, _^_, _≤_, _<_}
-use native.Mathlib.Nat.{le-trans, le-of-eq, lt-of-lt-of-le, lt-of-le-of-lt, lt-of-not-le, not-le-of-lt, le-antisymm, mul-le-mul, mul-le-mul-right, mul-lt-mul-of-pos-right, mul-mul-mul-comm, mul-pos, pow-suc, div-lt-iff-lt-mul, div-add-mod', mod-lt, pow-le-pow-left}
+use Prim.Native.Nat.{zero-le, ℕ, zero, suc, _+_, _-_, _*_, _/_, _%_, _^_, _≤_, _<_}
+use native.Mathlib.Nat.{le-of-lt, le-trans, le-of-eq, lt-of-lt-of-le, lt-of-le-of-lt, lt-of-not-le, not-le-of-lt, le-antisymm, mul-le-mul, mul-le-mul-right, mul-lt-mul-of-pos-right, mul-mul-mul-comm, mul-pos, pow-suc, div-lt-iff-lt-mul, div-add-mod', mod-lt, pow-le-pow-left}
 use native.Mathlib.Omega.{arith}
 use mathlib.Core.Bool.{Bool, true, false, not, cond}
 use lib.Dec.{T, leb, leb→le, nleb→lt}
@@ -18,6 +18,13 @@ pub record IsRoot (n r : ℕ) : Type 0 where
 -- ---- the squares are in order
 pub square-lt : (x y : ℕ) → x * x < y * y → x < y
 square-lt x y h = lt-of-not-le (λ (g : y ≤ x). not-le-of-lt h (mul-le-mul g g))
+
+pub lt-square : (x y : ℕ) → x < y → x * x < y * y
+lt-square x y h = lt-of-le-of-lt (mul-le-mul (le-of-eq refl) (le-of-lt h)) (mul-lt-mul-of-pos-right h (lt-of-le-of-lt zero-le h))
+
+-- an odd square is not an even number
+pub odd-square : (k M : ℕ) → (k * 2 + 1) * (k * 2 + 1) ≡ M * 2 ^ 54 → ⊥
+odd-square k M h = omega arith
 
 pub less-one : (x y : ℕ) → x < y + 1 → x ≤ y
 less-one x y h = omega arith
