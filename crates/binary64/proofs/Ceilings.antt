@@ -71,6 +71,11 @@ ceilCapped-above k h x = ceil-above (2 ^ k) (fin false 1 (pos k)) x (few (2 ^ k)
     few : (p : ℕ) → p ≤ 2 ^ 63 → p < 2 ^ 64 - 1
     few p h = omega arith
 
+-- a whole number as the program casts it
+pub ceilCapped-above-int : (n : ℕ) → n ≤ 2 ^ 53 → (x : Float) → ltb n (ceilCapped x) ≡ lt (ofInt binary64 (pos n)) x
+unfolding ofInt
+ceilCapped-above-int n h x = ceil-above n (round binary64 false n 1) x (omega arith) (round-whole binary64 false n h)
+
 -- ---- a number that is not above zero, and one of 2 ^ 64 or more
 pub ceil-none : (x : Float) → lt (fin false 0 (pos 0)) x ≡ false → ceilCapped x ≡ 0
 ceil-none x h = least (ceilCapped x) (ltb-false 0 (ceilCapped x) (ceil-above 0 (fin false 0 (pos 0)) x (omega arith) (refl, refl) ∙ h))

@@ -1,12 +1,12 @@
 -- Laws of `nearestCapped`: a number is rounded, halves away from zero, by its doubled size cut to a whole number. A number doubled is exact. Assumes nothing.
 use mathlib.Core.Path.{_≡_, refl, sym, ap, _∙_, subst}
 use Prim.Native.Nat.{ℕ, zero, suc, _+_, _-_, _*_, _/_, _%_, _^_, _≤_, _<_, min}
-use native.Mathlib.Nat.{lt-of-lt-of-le, mul-assoc, mul-right-comm, mul-pos, zero-mul, add-mul, mul-add, mul-lt-mul-of-pos-right, lt-of-mul-lt-mul-right, mul-le-mul-right, le-div-iff-mul-le, div-lt-iff-lt-mul, div-div-eq-div-mul, add-div-right, two-pow-succ}
+use native.Mathlib.Nat.{lt-of-lt-of-le, mul-assoc, mul-right-comm, mul-pos, add-mul, mul-add, mul-lt-mul-of-pos-right, lt-of-mul-lt-mul-right, mul-le-mul-right, le-div-iff-mul-le, div-lt-iff-lt-mul, div-div-eq-div-mul, add-div-right, two-pow-succ}
 use native.Mathlib.Omega.{arith}
 use mathlib.Core.Bool.{Bool, true, false}
 use lib.Dec.{T, lit≤}
 use lib.Pow.{pow-pos}
-use lib.IntN.{ℤ, pos, negsuc, negℤ}
+use lib.IntN.{ℤ, pos, negℤ}
 use lib.Ieee.{Float, nan, inf, fin, binary64, up, down, lt, ne, add, sum, round, toUnsigned, fits}
 use lib.Ieee.Fits.{down-pos}
 use lib.Ieee.Exact.{HasValue, round-exact}
@@ -14,6 +14,7 @@ use borrow.Author.Tests.{ltb-true, ltb-false}
 use Rattle.binary64.specs.Numbers.{abs, _⊕_}
 use Rattle.binary64.specs.Rounding.{quotientHalfUp, nearestCapped}
 use Rattle.binary64.proofs.Values.{cut-below, cut-range, revalue, digits, place}
+use Rattle.binary64.proofs.Sizes.{plus-not-below, minus-not-above}
 
 -- ---- doubled
 num-is : (m U d L J : ℕ) → U * L ≡ J * d → (m * U * d + m * U * d) * L ≡ m * (J + J) * (d * d)
@@ -46,12 +47,7 @@ double-exact m e t h =
     (num-is m (up e) d (2 ^ 1074) J (p .1) ∙ ap (λ (z : ℕ). m * z * (d * d)) (sym (two-pow-succ (p .0)))))
   where
     scaled : (x d : ℕ) → (x * d + x * d) * d ≡ x * 2 * (d * d)
-    scaled x d = sym (mul-assoc-l x d) where
-      twice : (a : ℕ) → a + a ≡ a * 2
-      twice a = omega arith
-
-      mul-assoc-l : (x d : ℕ) → x * 2 * (d * d) ≡ (x * d + x * d) * d
-      mul-assoc-l x d = sym (mul-assoc (x * 2) d d) ∙ ap (λ (z : ℕ). z * d) (mul-right-comm x 2 d ∙ sym (twice (x * d)))
+    scaled x d = omega arith
 
 -- ---- n / d rounded, from 2 * n / d cut to a whole number
 half-up : (n d : ℕ) → 0 < d → quotientHalfUp n d ≡ n * 2 / d / 2 + n * 2 / d % 2
@@ -81,20 +77,14 @@ zero-half d D = lt-one (quotientHalfUp 0 d) (div-lt-iff-lt-mul {k = d * 2} {x = 
     more d D = omega arith
 
 finite-rounds : (s : Bool) (m : ℕ) (e : ℤ) → Rounds (fin s m e) (quotientHalfUp (m * up e) (down e))
-unfolding nearestCapped lt
-finite-rounds true m e = record { minus = λ h. refl; plus = λ h. zero-side (m * up e) (down e) (down-pos e) (ltb-false 0 (m * up e * 1 + 0 * 1 * down e) h) }
+unfolding nearestCapped
+finite-rounds true m e = record { minus = λ h. refl; plus = λ h. zero-side (m * up e) (down e) (down-pos e) (minus-not-above m e h) }
   where
-    none : (n z : ℕ) → n * 1 + z ≤ 0 → n ≡ 0
-    none n z h = omega arith
-
-    zero-side : (n d : ℕ) → 0 < d → n * 1 + 0 * 1 * d ≤ 0 → negℤ (pos (min (quotientHalfUp n d) (2 ^ 63))) ≡ pos (min (quotientHalfUp n d) (2 ^ 63 - 1))
+    zero-side : (n d : ℕ) → 0 < d → n ≡ 0 → negℤ (pos (min (quotientHalfUp n d) (2 ^ 63))) ≡ pos (min (quotientHalfUp n d) (2 ^ 63 - 1))
     zero-side n d D h =
-        let z : quotientHalfUp n d ≡ 0 = ap (λ (k : ℕ). quotientHalfUp k d) (none n (0 * 1 * d) h) ∙ zero-half d D in
+        let z : quotientHalfUp n d ≡ 0 = ap (λ (k : ℕ). quotientHalfUp k d) h ∙ zero-half d D in
         ap (λ (k : ℕ). negℤ (pos (min k (2 ^ 63)))) z ∙ sym (ap (λ (k : ℕ). pos (min k (2 ^ 63 - 1))) z)
-finite-rounds false m e = record { minus = λ h. absurd (none (m * up e * 1) (0 * 1 * down e) (zero-mul (down e)) (ltb-true (m * up e * 1) (0 * 1 * down e) h)); plus = λ h. refl }
-  where
-    none : (n z : ℕ) → z ≡ 0 → n < z → ⊥
-    none n z e h = omega arith
+finite-rounds false m e = record { minus = λ h. absurd (plus-not-below m e h); plus = λ h. refl }
 
 -- ---- a size of 2 ^ 63 or more: the range's end
 capped-rounds : (x : Float) (k : ℕ) → 2 ^ 63 ≤ k → Rounds x k → Rounds x (2 ^ 63)

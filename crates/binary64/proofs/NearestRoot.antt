@@ -1,14 +1,13 @@
--- No binary64 number is nearer to the root of a number above zero than its rounded root: the neighbours of the rounded root are past the middles. Assumes nothing.
-use mathlib.Core.Path.{_≡_, refl, sym, ap, _∙_, subst}
-use mathlib.Core.Logic.{_⊎_, inl, inr}
+-- No other binary64 number is as near to the root of a number above zero as its rounded root: the neighbours of the rounded root are past the middles. Assumes nothing.
+use mathlib.Core.Path.{_≡_, sym, ap, _∙_, subst}
+use mathlib.Core.Logic.{inl, inr}
 use Prim.Native.Nat.{ℕ, zero, suc, _+_, _-_, _*_, _/_, _%_, _^_, _≤_, _<_}
-use native.Mathlib.Nat.{le-refl, le-trans, le-of-eq, le-of-lt, lt-of-lt-of-le, lt-of-le-of-lt, lt-of-not-le, not-le-of-lt, eq-or-lt-of-le, le-of-suc-le-suc, mul-one, one-mul, mul-comm, mul-assoc, mul-left-comm, mul-right-comm, mul-pos, mul-le-mul, mul-le-mul-right, mul-le-mul-left, mul-lt-mul-of-pos-right, mul-mul-mul-comm, lt-of-mul-lt-mul-right, eq-of-mul-eq-mul-right, sub-add-cancel, le-of-mul-le-mul-right, mod-lt}
+use native.Mathlib.Nat.{le-trans, le-of-eq, le-of-lt, lt-of-lt-of-le, lt-of-le-of-lt, lt-of-not-le, not-le-of-lt, eq-or-lt-of-le, mul-assoc, mul-right-comm, mul-le-mul, mul-le-mul-right, mul-pos, mul-lt-mul-of-pos-right, mul-mul-mul-comm, lt-of-mul-lt-mul-right, eq-of-mul-eq-mul-right, sub-add-cancel, le-of-mul-le-mul-right}
 use native.Mathlib.Decide.{decLe}
 use native.Mathlib.Omega.{arith}
-use mathlib.Core.Bool.{Bool, true, false}
-use lib.Dec.{T, lit≤}
-use lib.Pow.{pow-pos, pow-add, pow-mono, pow-lt}
-use lib.IntN.{ℤ}
+use mathlib.Core.Bool.{false}
+use lib.Dec.{T}
+use lib.Pow.{pow-pos, pow-add, pow-mono}
 use lib.Ieee.{Float, nan, inf, fin, binary64, up, down, size, fits, toBits}
 use lib.Ieee.Digits.{size-lt, size-le, size-reaches}
 use lib.Ieee.Exact.{HasValue}
@@ -16,10 +15,10 @@ use lib.Ieee.Positive.{positive}
 use lib.Ieee.Fits.{down-pos}
 use Rattle.binary64.specs.Root.{root}
 use Rattle.binary64.specs.NearestRoot.{NearestRoot}
-use Rattle.binary64.proofs.WholeRoots.{IsRoot, root-is}
-use Rattle.binary64.proofs.RoundedRoots.{R-lo, half-lo, half-hi, four-pow}
+use Rattle.binary64.proofs.WholeRoots.{IsRoot, lt-square, odd-square, root-is}
+use Rattle.binary64.proofs.RoundedRoots.{R-lo, half-lo, four-pow}
 use Rattle.binary64.proofs.Values.{digits, place}
-use Rattle.binary64.proofs.Patterns.{mantissa, pattern-of, Scale, scale-of, sqrt-value}
+use Rattle.binary64.proofs.Patterns.{mantissa, pattern-of, scale-of, sqrt-value}
 
 -- ---- a number of the format that is not negative is a whole number of units, of at most 53 digits and then zeros
 pub record Units (Y : ℕ) : Type 0 where
@@ -37,58 +36,47 @@ units-of (fin s m e) Y f h =
     record { m = m; j = p .0; is = eq-of-mul-eq-mul-right (down e) (down-pos e) Y (m * 2 ^ (p .0)) (sym (h .1) ∙ mul-assoc m (up e) (2 ^ 1074) ∙ ap (λ (z : ℕ). m * z) (p .1) ∙ sym (mul-assoc m (2 ^ (p .0)) (down e))); small = g .small }
 
 -- ---- the next numbers of the format, above and below q * 2 ^ k
+finer : (m j k : ℕ) → m < 2 ^ 53 → j < k → m * 2 ^ j < 2 ^ 52 * 2 ^ k
+finer m j k h o =
+    let l : 53 + j ≤ 52 + k = omega arith in
+    lt-of-lt-of-le (mul-lt-mul-of-pos-right h (pow-pos j)) (le-trans (le-of-eq (sym (pow-add 2 53 j))) (le-trans (pow-mono l) (le-of-eq (pow-add 2 52 k))))
+
 coarse : (m j q k : ℕ) → m < 2 ^ 53 → 2 ^ 52 ≤ q → q * 2 ^ k ≤ m * 2 ^ j → k ≤ j
-coarse m j q k h l g = le-of-suc-le-suc (lt-of-not-le (λ (o : suc j ≤ k). not-le-of-lt (small o) g))
-  where
-    small : suc j ≤ k → m * 2 ^ j < q * 2 ^ k
-    small o =
-        lt-of-lt-of-le (mul-lt-mul-of-pos-right h (pow-pos j))
-        (le-trans (le-of-eq (sym (pow-add 2 53 j)))
-        (le-trans (pow-mono (one-less j k o)) (le-trans (le-of-eq (pow-add 2 52 k)) (mul-le-mul-right (2 ^ k) l))))
-      where
-        one-less : (j k : ℕ) → suc j ≤ k → 53 + j ≤ 52 + k
-        one-less j k o = omega arith
+coarse m j q k h l g = elim (decLe k j) [
+  | yes o ↦ o
+  | no o ↦ absurd (not-le-of-lt (lt-of-lt-of-le (finer m j k h (lt-of-not-le o)) (mul-le-mul-right (2 ^ k) l)) g)
+]
 
 -- a multiple of 2 ^ k
 shifted : (m j k : ℕ) → k ≤ j → m * 2 ^ j ≡ m * 2 ^ (j - k) * 2 ^ k
 shifted m j k h = ap (λ (z : ℕ). m * 2 ^ z) (sym (sub-add-cancel h)) ∙ ap (λ (z : ℕ). m * z) (pow-add 2 (j - k) k) ∙ sym (mul-assoc m (2 ^ (j - k)) (2 ^ k))
 
-pub next-above : (m j q k : ℕ) → m < 2 ^ 53 → 2 ^ 52 ≤ q → q * 2 ^ k < m * 2 ^ j → (q + 1) * 2 ^ k ≤ m * 2 ^ j
-next-above m j q k h l g =
-    let e = shifted m j k (coarse m j q k h l (le-of-lt g)) in
-    le-trans (mul-le-mul-right (2 ^ k) (one q (m * 2 ^ (j - k)) (lt-of-mul-lt-mul-right (2 ^ k) (subst (λ (z : ℕ). q * 2 ^ k < z) e g)))) (le-of-eq (sym e))
+-- one multiple of p more
+step : (a b p : ℕ) → a * p < b * p → a * p + p ≤ b * p
+step a b p h = le-trans (le-of-eq (more a p)) (mul-le-mul-right p (lt-of-mul-lt-mul-right p h))
   where
-    one : (a b : ℕ) → a < b → a + 1 ≤ b
-    one a b h = omega arith
-
--- below, where q is not the least number of 53 digits
-pub next-below : (m j q k : ℕ) → m < 2 ^ 53 → 2 ^ 52 < q → m * 2 ^ j < q * 2 ^ k → m * 2 ^ j + 2 ^ k ≤ q * 2 ^ k
-next-below m j q k h l g = elim (decLe k j) [
-  | yes o ↦
-      let e = shifted m j k o in
-      le-trans (le-of-eq (ap (λ (z : ℕ). z + 2 ^ k) e)) (le-trans (le-of-eq (more (m * 2 ^ (j - k)) (2 ^ k))) (mul-le-mul-right (2 ^ k) (one (m * 2 ^ (j - k)) q (lt-of-mul-lt-mul-right (2 ^ k) (subst (λ (z : ℕ). z < q * 2 ^ k) e g)))))
-  | no o ↦ le-trans (add-right (m * 2 ^ j) (2 ^ 52 * 2 ^ k) (2 ^ k) (finer (lt-of-not-le o))) (le-trans (le-of-eq (more (2 ^ 52) (2 ^ k))) (mul-le-mul-right (2 ^ k) (one (2 ^ 52) q l)))
-]
-  where
-    one : (a b : ℕ) → a < b → a + 1 ≤ b
-    one a b h = omega arith
-
-    more : (a p : ℕ) → a * p + p ≡ (a + 1) * p
+    more : (a p : ℕ) → a * p + p ≡ suc a * p
     more a p = omega arith
 
+next-above : (m j q k : ℕ) → m < 2 ^ 53 → 2 ^ 52 ≤ q → q * 2 ^ k < m * 2 ^ j → q * 2 ^ k + 2 ^ k ≤ m * 2 ^ j
+next-above m j q k h l g =
+    let e = shifted m j k (coarse m j q k h l (le-of-lt g)) in
+    le-trans (step q (m * 2 ^ (j - k)) (2 ^ k) (subst (λ (z : ℕ). q * 2 ^ k < z) e g)) (le-of-eq (sym e))
+
+-- below, where q is not the least number of 53 digits
+next-below : (m j q k : ℕ) → m < 2 ^ 53 → 2 ^ 52 < q → m * 2 ^ j < q * 2 ^ k → m * 2 ^ j + 2 ^ k ≤ q * 2 ^ k
+next-below m j q k h l g = elim (decLe k j) [
+  | yes o ↦ let e = shifted m j k o in subst (λ (z : ℕ). z + 2 ^ k ≤ q * 2 ^ k) (sym e) (step (m * 2 ^ (j - k)) q (2 ^ k) (subst (λ (z : ℕ). z < q * 2 ^ k) e g))
+  | no o ↦ le-trans (add-right (m * 2 ^ j) (2 ^ 52 * 2 ^ k) (2 ^ k) (le-of-lt (finer m j k h (lt-of-not-le o)))) (step (2 ^ 52) q (2 ^ k) (mul-lt-mul-of-pos-right l (pow-pos k)))
+]
+  where
     add-right : (a b p : ℕ) → a ≤ b → a + p ≤ b + p
     add-right a b p h = omega arith
 
-    finer : j < k → m * 2 ^ j ≤ 2 ^ 52 * 2 ^ k
-    finer o = le-trans (le-of-lt (mul-lt-mul-of-pos-right h (pow-pos j))) (le-trans (le-of-eq (sym (pow-add 2 53 j))) (le-trans (pow-mono (one-less j k o)) (le-of-eq (pow-add 2 52 k))))
-      where
-        one-less : (j k : ℕ) → j < k → 53 + j ≤ 52 + k
-        one-less j k o = omega arith
-
 -- ---- the middles, squared
-pub record Nearest (U A : ℕ) : Type 0 where
-  pub above : (Y : ℕ) → Units Y → A < Y → U * 2 ^ 1074 * 4 ≤ (A + Y) * (A + Y)
-  pub below : (Y : ℕ) → Units Y → Y < A → (A + Y) * (A + Y) ≤ U * 2 ^ 1074 * 4
+record Nearest (U A : ℕ) : Type 0 where
+  above : (Y : ℕ) → Units Y → A < Y → U * 2 ^ 1074 * 4 < (A + Y) * (A + Y)
+  below : (Y : ℕ) → Units Y → Y < A → (A + Y) * (A + Y) < U * 2 ^ 1074 * 4
 
 module _ (U M t R : ℕ) (W : U * 2 ^ 126 ≡ M * 2 ^ 54 * 4 ^ t) (lo : 2 ^ 52 ≤ M) (hi : M < 2 ^ 54) (is : IsRoot (M * 2 ^ 54) R) where
   in-units : U * 2 ^ 1074 * 4 ≡ M * 2 ^ 54 * (2 ^ (t + 475) * 2 ^ (t + 475))
@@ -99,58 +87,55 @@ module _ (U M t R : ℕ) (W : U * 2 ^ 126 ≡ M * 2 ^ 54 * 4 ^ t) (lo : 2 ^ 52 �
       ∙ mul-assoc (M * 2 ^ 54) (2 ^ t * 2 ^ t) (2 ^ 950)
       ∙ ap (λ (z : ℕ). M * 2 ^ 54 * z) (sym (ap (λ (z : ℕ). z * z) (pow-add 2 t 475) ∙ mul-mul-mul-comm (2 ^ t) (2 ^ 475) (2 ^ t) (2 ^ 475)))
 
-  R-most : R + 1 ≤ (R / 2 + R % 2) * 2 + 1
-  R-most = go R
-    where
-      go : (R : ℕ) → R + 1 ≤ (R / 2 + R % 2) * 2 + 1
-      go R = omega arith
+  -- a square below, or above, in units
+  past : (a b K : ℕ) → 0 < K → M * 2 ^ 54 < a * a → a * K ≤ b → M * 2 ^ 54 * (K * K) < b * b
+  past a b K P h l = lt-of-lt-of-le (mul-lt-mul-of-pos-right h (mul-pos P P)) (le-trans (le-of-eq (sym (mul-mul-mul-comm a K a K))) (mul-le-mul l l))
+
+  short : (a b K : ℕ) → 0 < K → a * a < M * 2 ^ 54 → b ≤ a * K → b * b < M * 2 ^ 54 * (K * K)
+  short a b K P h l = lt-of-le-of-lt (le-trans (mul-le-mul l l) (le-of-eq (mul-mul-mul-comm a K a K))) (mul-lt-mul-of-pos-right h (mul-pos P P))
+
+  -- an odd number at most R: its square is not M * 2 ^ 54, which is even
+  odd-below : (k : ℕ) → k * 2 + 1 ≤ R → (k * 2 + 1) * (k * 2 + 1) < M * 2 ^ 54
+  odd-below k h = elim (eq-or-lt-of-le (le-trans (mul-le-mul h h) (is .low))) [ inl e ↦ absurd (odd-square k M e) | inr l ↦ l ]
 
   nearest : Nearest U ((R / 2 + R % 2) * 2 ^ (t + 475))
   nearest = record {
     above = λ Y u h.
         let q = R / 2 + R % 2 in
         let K = 2 ^ (t + 475) in
-        let n : (q + 1) * K ≤ Y = subst (λ (z : ℕ). (q + 1) * K ≤ z) (sym (u .is)) (next-above (u .m) (u .j) q (t + 475) (u .small) (half-lo M R lo hi is) (subst (λ (z : ℕ). q * K < z) (u .is) h)) in
-        le-trans (le-of-eq in-units)
-        (le-trans (mul-le-mul-right (K * K) (le-trans (le-of-lt (is .high)) (mul-le-mul R-most R-most)))
-        (le-trans (le-of-eq (sym (mul-mul-mul-comm (q * 2 + 1) K (q * 2 + 1) K))) (mul-le-mul (far q K Y n) (far q K Y n))));
+        let n : q * K + K ≤ Y = subst (λ (z : ℕ). q * K + K ≤ z) (sym (u .is)) (next-above (u .m) (u .j) q (t + 475) (u .small) (half-lo M R lo hi is) (subst (λ (z : ℕ). q * K < z) (u .is) h)) in
+        lt-of-le-of-lt (le-of-eq in-units) (past (q * 2 + 1) (q * K + Y) K (pow-pos (t + 475)) (lt-of-lt-of-le (is .high) (mul-le-mul (most R) (most R))) (far q K Y n));
     below = λ Y u h.
         let q = R / 2 + R % 2 in
         let K = 2 ^ (t + 475) in
-        le-trans
+        lt-of-lt-of-le
         (elim (eq-or-lt-of-le (half-lo M R lo hi is)) [
-          | inl e ↦ square (q * K + Y) R K (least q R K Y (sym e) h (R-lo M R lo hi is))
-          | inr l ↦ square (q * K + Y) R K (near q R K Y (subst (λ (z : ℕ). z + K ≤ q * K) (sym (u .is)) (next-below (u .m) (u .j) q (t + 475) (u .small) l (subst (λ (z : ℕ). z < q * K) (u .is) h))) (top R))
+          | inl e ↦ lt-of-lt-of-le (lt-square (q * K + Y) (R * K) (least q R K Y (sym e) h (R-lo M R lo hi is))) (le-trans (le-of-eq (mul-mul-mul-comm R K R K)) (mul-le-mul-right (K * K) (is .low)))
+          | inr l ↦
+              let n : Y + K ≤ q * K = subst (λ (z : ℕ). z + K ≤ q * K) (sym (u .is)) (next-below (u .m) (u .j) q (t + 475) (u .small) l (subst (λ (z : ℕ). z < q * K) (u .is) h)) in
+              short ((q - 1) * 2 + 1) (q * K + Y) K (pow-pos (t + 475)) (odd-below (q - 1) (odd-most R (R-lo M R lo hi is))) (near q K Y l n)
         ])
-        (le-trans (mul-le-mul-right (K * K) (is .low)) (le-of-eq (sym in-units)));
+        (le-of-eq (sym in-units));
   }
     where
-      far : (q K Y : ℕ) → (q + 1) * K ≤ Y → (q * 2 + 1) * K ≤ q * K + Y
+      most : (R : ℕ) → R + 1 ≤ (R / 2 + R % 2) * 2 + 1
+      most R = omega arith
+
+      far : (q K Y : ℕ) → q * K + K ≤ Y → (q * 2 + 1) * K ≤ q * K + Y
       far q K Y h = omega arith
 
-      square : (a R K : ℕ) → a ≤ R * K → a * a ≤ R * R * (K * K)
-      square a R K h = le-trans (mul-le-mul h h) (le-of-eq (mul-mul-mul-comm R K R K))
-
-      top : (R : ℕ) → (R / 2 + R % 2) * 2 ≤ R + 1
-      top R = omega arith
-
-      least : (q R K Y : ℕ) → q ≡ 2 ^ 52 → Y < q * K → 2 ^ 53 ≤ R → q * K + Y ≤ R * K
-      least q R K Y e h l = le-trans (double (q * K) Y h) (le-trans (le-of-eq (ap (λ (z : ℕ). z * K * 2) e ∙ mul-right-comm (2 ^ 52) K 2)) (mul-le-mul-right K l))
+      least : (q R K Y : ℕ) → q ≡ 2 ^ 52 → Y < q * K → 2 ^ 53 ≤ R → q * K + Y < R * K
+      least q R K Y e h l = lt-of-lt-of-le (double (q * K) Y h) (le-trans (le-of-eq (ap (λ (z : ℕ). z * K * 2) e ∙ mul-right-comm (2 ^ 52) K 2)) (mul-le-mul-right K l))
         where
-          double : (a Y : ℕ) → Y < a → a + Y ≤ a * 2
+          double : (a Y : ℕ) → Y < a → a + Y < a * 2
           double a Y h = omega arith
 
-      near : (q R K Y : ℕ) → Y + K ≤ q * K → q * 2 ≤ R + 1 → q * K + Y ≤ R * K
-      near q R K Y h l = go (q * K) (q * 2 * K) ((R + 1) * K) (R * K) K Y (twice q K) (more R K) (mul-le-mul-right K l) h
-        where
-          twice : (q K : ℕ) → q * 2 * K ≡ q * K * 2
-          twice q K = omega arith
+      odd-most : (R : ℕ) → 2 ^ 53 ≤ R → (R / 2 + R % 2 - 1) * 2 + 1 ≤ R
+      odd-most R h = omega arith
 
-          more : (R K : ℕ) → (R + 1) * K ≡ R * K + K
-          more R K = omega arith
-
-          go : (a b c r K Y : ℕ) → b ≡ a * 2 → c ≡ r + K → b ≤ c → Y + K ≤ a → a + Y ≤ r
-          go a b c r K Y e f h g = omega arith
+      near : (q K Y : ℕ) → 2 ^ 52 < q → Y + K ≤ q * K → q * K + Y ≤ ((q - 1) * 2 + 1) * K
+      near zero K Y l h = omega arith
+      near (suc k) K Y l h = let e : suc k - 1 ≡ k = omega arith in subst (λ (z : ℕ). suc k * K + Y ≤ (z * 2 + 1) * K) (sym e) (omega arith)
 
 -- ---- any number above zero, times 4 ^ 600, is M * 2 ^ 54 * 4 ^ t with an M of 53 or 54 digits
 record Even (N : ℕ) : Type 0 where
@@ -198,15 +183,11 @@ even m e h l f =
     most z e h f = omega arith
 
 -- ---- the theorem
-few-digits : (X d : ℕ) → d < 2 ^ 52 → mantissa X d < 2 ^ 53
-few-digits zero d h = omega arith
-few-digits (suc X) d h = omega arith
-
 pub nearest-root : (x : Float) → T (fits binary64 x) → T (positive x) → NearestRoot x
 nearest-root x f p =
     let b = toBits binary64 x in
     let w = scale-of x b (pattern-of x f p) in
-    let v = even (mantissa (b / 2 ^ 52) (b % 2 ^ 52)) (b / 2 ^ 52 - 1 + 126) (few-digits (b / 2 ^ 52) (b % 2 ^ 52) (mod-lt b (pow-pos 52))) (w .least) (w .far) in
+    let v = even (mantissa (b / 2 ^ 52) (b % 2 ^ 52)) (b / 2 ^ 52 - 1 + 126) (w .small) (w .least) (w .far) in
     let W : w .U * 2 ^ 126 ≡ v .M * 2 ^ 54 * 4 ^ (v .t) = sym (w .same) ∙ v .same in
     let R = root (v .M * 2 ^ 54) in
     let n = nearest (w .U) (v .M) (v .t) R W (v .lo) (v .hi) (root-is (v .M * 2 ^ 54)) in

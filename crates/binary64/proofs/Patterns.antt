@@ -1,17 +1,16 @@
 -- A binary64 number above zero and its bit pattern: the digits and the exponent that the pattern holds, each way. And the rounded root by them. Assumes nothing.
 use mathlib.Core.Path.{_≡_, refl, sym, ap, _∙_, subst}
-use mathlib.Core.Logic.{_⊎_, inl, inr}
+use mathlib.Core.Logic.{inl, inr}
 use Prim.Native.Nat.{ℕ, zero, suc, _+_, _-_, _*_, _/_, _%_, _^_, _≤_, _<_}
-use native.Mathlib.Nat.{le-trans, le-of-eq, lt-of-lt-of-le, lt-of-le-of-lt, lt-of-not-le, not-le-of-lt, eq-or-lt-of-le, mul-one, one-mul, mul-comm, mul-assoc, mul-left-comm, mul-right-comm, mul-pos, mul-le-mul, mul-le-mul-right, mul-le-mul-left, mul-lt-mul-of-pos-right, mod-eq-of-lt, pow-suc, pow-succ', two-pow-succ}
+use native.Mathlib.Nat.{le-trans, le-of-eq, lt-of-le-of-lt, lt-of-not-le, not-le-of-lt, eq-or-lt-of-le, mul-one, one-mul, mul-comm, mul-assoc, mul-right-comm, mul-le-mul, mul-le-mul-left, mul-lt-mul-of-pos-right, mod-eq-of-lt, mod-lt, pow-succ'}
 use native.Mathlib.Omega.{arith}
 use mathlib.Core.Bool.{Bool, true, false, not, cond}
-use lib.Dec.{T, leb, ltb, eqb, leb→le, nleb→lt, eqb→eq, eqb-refl, lit≤}
+use lib.Dec.{T, leb, eqb, eqb-refl}
 use lib.Pow.{pow-pos, pow-add, pow-mono}
 use lib.Arith.{digits-div, digits-mod}
-use lib.IntN.{ℤ, pos, negsuc}
-use lib.Ieee.{Float, nan, inf, fin, binary64, up, down, odd, ofFields, ofBits, toBits, nanBits, isNan, fits, round}
+use lib.Ieee.{Float, nan, inf, fin, binary64, up, down, odd, ofFields, ofBits, toBits, nanBits, isNan, fits}
 use lib.Ieee.Fits.{down-pos, round-fits}
-use lib.Ieee.Bits.{ofBits-toBits, toBits-lt, ofBits-fits, nanBits-above}
+use lib.Ieee.Bits.{ofBits-toBits, ofBits-fits, nanBits-above}
 use lib.Ieee.Exact.{HasValue, odd-sign}
 use lib.Ieee.Positive.{positive, value-pos, first-pos}
 use borrow.Author.Tests.{lt-leb, ne-eqb, le-ltb, leb-false}
@@ -190,12 +189,13 @@ module _ (x : Float) (U M t R : ℕ) (p : T (positive x)) (v : HasValue x false 
       near : (t : ℕ) → t ≤ 1100 → t + 475 ≤ 2000
       near t h = omega arith
 
--- ---- x * 4 ^ 600 as m * 2 ^ e, with an m of 53 digits
+-- ---- x * 4 ^ 600 as m * 2 ^ e
 pub record Scale (x : Float) (m e : ℕ) : Type 0 where
   pub U : ℕ
   pub value : HasValue x false U (2 ^ 1074)
   pub same : m * 2 ^ e ≡ U * 2 ^ 126
   pub least : 2 ^ 126 ≤ m * 2 ^ e
+  pub small : m < 2 ^ 53
   pub far : e ≤ 2171
 
 pub scale-of : (x : Float) (b : ℕ) → PatternOf x b → Scale x (mantissa (b / 2 ^ 52) (b % 2 ^ 52)) (b / 2 ^ 52 - 1 + 126)
@@ -207,109 +207,113 @@ scale-of x b w =
       value = w .value;
       same = ap (λ (z : ℕ). m * z) (pow-add 2 k 126) ∙ sym (mul-assoc m (2 ^ k) (2 ^ 126));
       least = le-trans (le-of-eq (sym (one-mul (2 ^ 126)))) (mul-le-mul (w .digits-pos) (pow-mono (more k)));
+      small = few-digits (b / 2 ^ 52) (b % 2 ^ 52) (mod-lt b (pow-pos 52));
       far = most (b / 2 ^ 52) (w .under);
     }
   where
+    few-digits : (X t : ℕ) → t < 2 ^ 52 → mantissa X t < 2 ^ 53
+    few-digits zero t h = omega arith
+    few-digits (suc X) t h = omega arith
+
     more : (k : ℕ) → 126 ≤ k + 126
     more k = omega arith
 
     most : (q : ℕ) → q ≤ 2046 → q - 1 + 126 ≤ 2171
     most q h = omega arith
 
-pub rescaled : (x : Float) (m e n f : ℕ) → Scale x m e → n * 2 ^ f ≡ m * 2 ^ e → f ≤ e → Scale x n f
-rescaled x m e n f w h l =
-    record { U = w .U; value = w .value; same = h ∙ w .same; least = subst (λ (z : ℕ). 2 ^ 126 ≤ z) (sym h) (w .least); far = le-trans l (w .far) }
+-- as the program reads the pattern: with the leading digit, and without
+pub scale-normal : (x : Float) (b m e : ℕ) → PatternOf x b → 0 < b / 2 ^ 52 → m ≡ b % 2 ^ 52 + 2 ^ 52 → e ≡ b / 2 ^ 52 + 125 → Scale x m e
+scale-normal x b m e w h p q = subst (λ (n : ℕ). Scale x n e) (sym (p ∙ lead (b / 2 ^ 52) (b % 2 ^ 52) h)) (subst (Scale x _) (sym (q ∙ later (b / 2 ^ 52) h)) (scale-of x b w))
+  where
+    lead : (X t : ℕ) → 0 < X → t + 2 ^ 52 ≡ mantissa X t
+    lead zero t h = omega arith
+    lead (suc X) t h = omega arith
+
+    later : (X : ℕ) → 0 < X → X + 125 ≡ X - 1 + 126
+    later X h = omega arith
+
+pub scale-subnormal : (x : Float) (b m e : ℕ) → PatternOf x b → b / 2 ^ 52 ≤ 0 → m ≡ b % 2 ^ 52 → e ≡ 126 → Scale x m e
+scale-subnormal x b m e w h p q = subst (λ (n : ℕ). Scale x n e) (sym (p ∙ none (b / 2 ^ 52) (b % 2 ^ 52) h)) (subst (Scale x _) (sym (q ∙ first (b / 2 ^ 52) h)) (scale-of x b w))
+  where
+    none : (X t : ℕ) → X ≤ 0 → t ≡ mantissa X t
+    none zero t h = refl
+    none (suc X) t h = omega arith
+
+    first : (X : ℕ) → X ≤ 0 → 126 ≡ X - 1 + 126
+    first X h = omega arith
+
+pub rescaled : (x : Float) (m e n f : ℕ) → Scale x m e → n * 2 ^ f ≡ m * 2 ^ e → n < 2 ^ 53 → f ≤ e → Scale x n f
+rescaled x m e n f w h s l =
+    record { U = w .U; value = w .value; same = h ∙ w .same; least = subst (λ (z : ℕ). 2 ^ 126 ≤ z) (sym h) (w .least); small = s; far = le-trans l (w .far) }
 
 exponent-least : (m e : ℕ) → m < 2 ^ 53 → 2 ^ 126 ≤ m * 2 ^ e → 74 ≤ e
-exponent-least m e h k = up e (lt-of-not-le (λ (g : e ≤ 73). not-le-of-lt (lt-of-le-of-lt (mul-le-mul-left m (pow-mono g)) (mul-lt-mul-of-pos-right h (pow-pos 73))) k))
-  where
-    up : (e : ℕ) → 73 < e → 74 ≤ e
-    up e h = omega arith
+exponent-least m e h k = lt-of-not-le (λ (g : e ≤ 73). not-le-of-lt (lt-of-le-of-lt (mul-le-mul-left m (pow-mono g)) (mul-lt-mul-of-pos-right h (pow-pos 73))) k)
 
-two-digit : (b : ℕ) → b < 2 → 2 ^ b ≡ 1 + b
-two-digit zero h = refl
-two-digit (suc zero) h = refl
-two-digit (suc (suc b)) h = absurd (clash b h)
+-- ---- an even exponent: the digits m, doubled where e is odd
+pub even-digits-low : (m e : ℕ) → 2 ^ 52 ≤ m → 2 ^ 52 ≤ m * (1 + e % 2)
+even-digits-low m e h = le-trans h (le-trans (le-of-eq (sym (mul-one m))) (mul-le-mul-left m (more e)))
   where
-    clash : (b : ℕ) → suc (suc b) < 2 → ⊥
-    clash b h = omega arith
+    more : (e : ℕ) → 1 ≤ 1 + e % 2
+    more e = omega arith
+
+pub even-digits-high : (m e : ℕ) → m < 2 ^ 53 → m * (1 + e % 2) < 2 ^ 54
+even-digits-high m e h = lt-of-le-of-lt (mul-le-mul-left m (two e)) (twice m h)
+  where
+    two : (e : ℕ) → 1 + e % 2 ≤ 2
+    two e = omega arith
+
+    twice : (m : ℕ) → m < 2 ^ 53 → m * 2 < 2 ^ 54
+    twice m h = omega arith
 
 -- 2 ^ e is 4 ^ (e / 2), twice where e is odd
 even-part : (e : ℕ) → 2 ^ e ≡ 4 ^ (e / 2) * (1 + e % 2)
 even-part e =
-    ap (λ (z : ℕ). 2 ^ z) (halves e) ∙ pow-add 2 (e / 2 + e / 2) (e % 2) ∙ ap (λ (z : ℕ). z * 2 ^ (e % 2)) (pow-add 2 (e / 2) (e / 2) ∙ sym (four-pow (e / 2))) ∙ ap (λ (z : ℕ). 4 ^ (e / 2) * z) (two-digit (e % 2) (bit e))
+    ap (λ (z : ℕ). 2 ^ z) (halves e)
+    ∙ pow-add 2 (e / 2 + e / 2) (e % 2)
+    ∙ ap (λ (z : ℕ). z * 2 ^ (e % 2)) (pow-add 2 (e / 2) (e / 2) ∙ sym (four-pow (e / 2)))
+    ∙ ap (λ (z : ℕ). 4 ^ (e / 2) * z) (digit (e % 2) (mod-lt e (pow-pos 1)))
   where
     halves : (e : ℕ) → e ≡ e / 2 + e / 2 + e % 2
     halves e = omega arith
 
-    bit : (e : ℕ) → e % 2 < 2
-    bit e = omega arith
+    digit : (b : ℕ) → b < 2 → 2 ^ b ≡ 1 + b
+    digit zero h = refl
+    digit (suc zero) h = refl
+    digit (suc (suc b)) h = omega arith
 
-module _ (x : Float) (m e R : ℕ) (p : T (positive x)) (w : Scale x m e) (lo : 2 ^ 52 ≤ m) (hi : m < 2 ^ 53) (is : IsRoot (m * (1 + e % 2) * 2 ^ 54) R) where
-  e-low : 74 ≤ e
-  e-low = exponent-least m e hi (w .least)
+-- ---- the rounded root as the program writes it, R being the root of the digits
+pub record Written (x : Float) (e R : ℕ) : Type 0 where
+  pub exponent : e / 2 + 448 ≤ 2000
+  pub digits : R / 2 + R % 2 ≤ 2 ^ 53
+  pub root : ofBits binary64 ((e / 2 + 448) * 2 ^ 52 + (R / 2 + R % 2)) ≡ sqrtOf x
 
-  half-low : 27 ≤ e / 2
-  half-low = go e e-low
-    where
-      go : (e : ℕ) → 74 ≤ e → 27 ≤ e / 2
-      go e h = omega arith
+pub from-root : (x : Float) (m e R : ℕ) → T (positive x) → Scale x m e → 2 ^ 52 ≤ m → IsRoot (m * (1 + e % 2) * 2 ^ 54) R → Written x e R
+from-root x m e R p w lo is =
+    let M = m * (1 + e % 2) in
+    let e-low : 74 ≤ e = exponent-least m e (w .small) (w .least) in
+    let t = e / 2 - 27 in
+    let back : t + 27 ≡ e / 2 = omega arith in
+    let k : t + 475 ≡ e / 2 + 448 = omega arith in
+    let M-lo = even-digits-low m e lo in
+    let M-hi = even-digits-high m e (w .small) in
+    let split : w .U * 2 ^ 126 ≡ M * 2 ^ 54 * 4 ^ t =
+    sym (w .same)
+    ∙ ap (λ (z : ℕ). m * z) (even-part e ∙ ap (λ (z : ℕ). z * (1 + e % 2)) (ap (λ (z : ℕ). 4 ^ z) (sym back) ∙ pow-add 4 t 27))
+    ∙ order m (4 ^ t) (4 ^ 27) (1 + e % 2) in
+    record {
+      exponent = most e (w .far);
+      digits = half-hi M R M-lo M-hi is;
+      root = ap (λ (z : ℕ). ofBits binary64 (z * 2 ^ 52 + (R / 2 + R % 2))) (sym k) ∙ sqrt-pattern x (w .U) M t R p (w .value) split M-lo M-hi (near e (w .far)) is;
+    }
+  where
+    order : (m a b c : ℕ) → m * (a * b * c) ≡ m * c * b * a
+    order m a b c = ap (λ (z : ℕ). m * z) (mul-comm (a * b) c ∙ ap (λ (z : ℕ). c * z) (mul-comm a b) ∙ sym (mul-assoc c b a)) ∙ sym (mul-assoc m (c * b) a) ∙ ap (λ (z : ℕ). z * a) (sym (mul-assoc m c b))
 
-  back : e / 2 - 27 + 27 ≡ e / 2
-  back = go (e / 2) half-low
-    where
-      go : (h : ℕ) → 27 ≤ h → h - 27 + 27 ≡ h
-      go h l = omega arith
+    most : (e : ℕ) → e ≤ 2171 → e / 2 + 448 ≤ 2000
+    most e h = omega arith
 
-  split : w .U * 2 ^ 126 ≡ m * (1 + e % 2) * 2 ^ 54 * 4 ^ (e / 2 - 27)
-  split =
-      sym (w .same)
-      ∙ ap (λ (z : ℕ). m * z) (even-part e ∙ ap (λ (z : ℕ). z * (1 + e % 2)) (ap (λ (z : ℕ). 4 ^ z) (sym back) ∙ pow-add 4 (e / 2 - 27) 27))
-      ∙ order m (4 ^ (e / 2 - 27)) (4 ^ 27) (1 + e % 2)
-    where
-      order : (m a b c : ℕ) → m * (a * b * c) ≡ m * c * b * a
-      order m a b c = ap (λ (z : ℕ). m * z) (mul-comm (a * b) c ∙ ap (λ (z : ℕ). c * z) (mul-comm a b) ∙ sym (mul-assoc c b a)) ∙ sym (mul-assoc m (c * b) a) ∙ ap (λ (z : ℕ). z * a) (sym (mul-assoc m c b))
-
-  M-lo : 2 ^ 52 ≤ m * (1 + e % 2)
-  M-lo = le-trans lo (le-trans (le-of-eq (sym (mul-one m))) (mul-le-mul-left m (go (e % 2))))
-    where
-      go : (b : ℕ) → 1 ≤ 1 + b
-      go b = omega arith
-
-  M-hi : m * (1 + e % 2) < 2 ^ 54
-  M-hi = lt-of-le-of-lt (mul-le-mul-left m (go e)) (twice m hi)
-    where
-      go : (e : ℕ) → 1 + e % 2 ≤ 2
-      go e = omega arith
-
-      twice : (m : ℕ) → m < 2 ^ 53 → m * 2 < 2 ^ 54
-      twice m h = omega arith
-
-  far : e / 2 - 27 ≤ 1100
-  far = go e (w .far)
-    where
-      go : (e : ℕ) → e ≤ 2171 → e / 2 - 27 ≤ 1100
-      go e h = omega arith
-
-  k-is : e / 2 - 27 + 475 ≡ e / 2 + 448
-  k-is = go (e / 2) half-low
-    where
-      go : (h : ℕ) → 27 ≤ h → h - 27 + 475 ≡ h + 448
-      go h l = omega arith
-
-  pub from-root : ofBits binary64 ((e / 2 + 448) * 2 ^ 52 + (R / 2 + R % 2)) ≡ sqrtOf x
-  from-root =
-      ap (λ (k : ℕ). ofBits binary64 (k * 2 ^ 52 + (R / 2 + R % 2))) (sym k-is)
-      ∙ sqrt-pattern x (w .U) (m * (1 + e % 2)) (e / 2 - 27) R p (w .value) split M-lo M-hi far is
-
-  pub k-most : e / 2 + 448 ≤ 2000
-  k-most = go e (w .far)
-    where
-      go : (e : ℕ) → e ≤ 2171 → e / 2 + 448 ≤ 2000
-      go e h = omega arith
-
-  pub q-most : R / 2 + R % 2 ≤ 2 ^ 53
-  q-most = half-hi (m * (1 + e % 2)) R M-lo M-hi is
+    near : (e : ℕ) → e ≤ 2171 → e / 2 - 27 ≤ 1100
+    near e h = omega arith
 
 pub positive-no-nan : (x : Float) → T (positive x) → T (not (isNan x))
 unfolding isNan

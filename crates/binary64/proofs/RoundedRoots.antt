@@ -1,22 +1,22 @@
 -- The rounded root from a root of 54 binary digits: with R the root of M * 4 ^ 27, the root of M * 4 ^ h / 4 ^ 600 rounds to (R + 1) / 2, cut, times 2 ^ (h - 626).
 -- No number is halfway between two floats: an odd R is no exact root. Assumes nothing.
 use mathlib.Core.Path.{_≡_, refl, sym, ap, _∙_, subst}
-use mathlib.Core.Logic.{_⊎_, inl, inr}
+use mathlib.Core.Logic.{inl, inr}
 use Prim.Native.Nat.{ℕ, zero, suc, _+_, _-_, _*_, _/_, _%_, _^_, _≤_, _<_, compare, Ordering, Ordering·lt, Ordering·eq, Ordering·gt}
-use native.Mathlib.Nat.{le-refl, le-trans, le-of-eq, lt-of-lt-of-le, lt-of-le-of-lt, lt-of-not-le, not-le-of-lt, le-antisymm, le-of-suc-le-suc, mul-one, one-mul, mul-comm, mul-assoc, mul-left-comm, mul-right-comm, mul-le-mul, mul-le-mul-right, mul-lt-mul-of-pos-right, mul-mul-mul-comm, mul-pos, mul-div-cancel, div-eq-of-lt-le, eq-of-mul-eq-mul-right, eq-zero-or-pos, add-mul, pow-suc}
+use native.Mathlib.Nat.{le-trans, le-of-eq, lt-of-lt-of-le, lt-of-le-of-lt, lt-of-not-le, not-le-of-lt, le-antisymm, mul-assoc, mul-left-comm, mul-le-mul-right, mul-lt-mul-of-pos-right, mul-mul-mul-comm, mul-pos, mul-div-cancel, eq-of-mul-eq-mul-right, eq-zero-or-pos, pow-suc}
 use native.Mathlib.Omega.{arith}
 use mathlib.Core.Bool.{Bool, true, false, not, cond}
 use lib.Dec as Dec
-use lib.Dec.{T, isLe, isEq, leb, eqb, leb→le, nleb→lt, eqb→eq, eqb-refl, lit≤}
+use lib.Dec.{T, isLe, isEq, eqb, leb→le, nleb→lt, eqb→eq}
 use lib.Pow.{pow-pos, pow-add, pow-mono, pow-lt}
 use lib.Arith.{digits-div, digits-mod}
-use lib.Ieee.{Float, nan, inf, fin, binary64, size, nearest, units, round}
+use lib.Ieee.{Float, binary64, size, nearest, units, round}
 use lib.Ieee.Digits.{size-lt, size-le}
 use lib.Ieee.Fits.{core, round-is}
 use lib.Ieee.Exact.{HasValue, units-val}
 use lib.Ieee.Nearest.{closest, closest-same}
 use Rattle.binary64.specs.Root.{root, rootRounded}
-use Rattle.binary64.proofs.WholeRoots.{IsRoot, square-lt, root-is, Longer, longer}
+use Rattle.binary64.proofs.WholeRoots.{IsRoot, square-lt, less-one, odd-square, root-is, Longer, longer}
 
 -- ---- to the nearest, off a tie
 module _ (q x y : ℕ) where
@@ -25,30 +25,18 @@ module _ (q x y : ℕ) where
     where
       go : (o : Ordering) → (T (isEq o) → x ≡ y) → (T (not (isLe o)) → y < x) → nearest q o ≡ q
       go Ordering·lt e g = refl
-      go Ordering·eq e g = absurd (clash (e tt) h)
-        where
-          clash : x ≡ y → x < y → ⊥
-          clash e h = omega arith
-      go Ordering·gt e g = absurd (clash (g tt) h)
-        where
-          clash : y < x → x < y → ⊥
-          clash g h = omega arith
+      go Ordering·eq e g = let k = e tt in omega arith
+      go Ordering·gt e g = let k = g tt in omega arith
 
   pub nearest-gt : y < x → nearest q (compare x y) ≡ suc q
   nearest-gt h = go (compare x y) (leb→le x y)
     where
-      clash : x ≤ y → y < x → ⊥
-      clash g h = omega arith
-
       go : (o : Ordering) → (T (isLe o) → x ≤ y) → nearest q o ≡ suc q
-      go Ordering·lt f = absurd (clash (f tt) h)
-      go Ordering·eq f = absurd (clash (f tt) h)
+      go Ordering·lt f = let k = f tt in omega arith
+      go Ordering·eq f = let k = f tt in omega arith
       go Ordering·gt f = refl
 
 -- ---- 2 * r + s over 4 * D, where r is R * D and a rest
-half-of : ℕ → ℕ
-half-of R = R / 2 + R % 2
-
 closest-at : (q m : ℕ) {r : ℕ} → r < m → closest (q * m + r) m ≡ nearest q (compare (r * 2) m)
 closest-at q m {r} h = ap (λ (z : ℕ). nearest z (compare ((q * m + r) % m * 2) m)) (digits-div q h) ∙ ap (λ (z : ℕ). nearest q (compare (z * 2) m)) (digits-mod q h)
 
@@ -102,10 +90,7 @@ closest-half R D ρ s h k odd = go (R % 2) (R / 2) (RD (R / 2) (R % 2) D R (part
 
         same : (a : ℕ) → suc a ≡ a + 1
         same a = omega arith
-    go (suc (suc b)) a e l o = absurd (clash b l)
-      where
-        clash : (b : ℕ) → suc (suc b) ≤ 1 → ⊥
-        clash b l = omega arith
+    go (suc (suc b)) a e l o = omega arith
 
 -- ---- how many digits a number has
 pub size-is : (x k : ℕ) → 2 ^ k ≤ x → x < 2 ^ (k + 1) → size x ≡ k + 1
@@ -165,10 +150,7 @@ four-pow (suc t) = pow-suc 4 t ∙ ap (λ (z : ℕ). z * 4) (four-pow t) ∙ sym
 -- ---- the size of a root of 54 digits
 module _ (M R : ℕ) (lo : 2 ^ 52 ≤ M) (hi : M < 2 ^ 54) (is : IsRoot (M * 2 ^ 54) R) where
   pub R-lo : 2 ^ 53 ≤ R
-  R-lo = less (2 ^ 53) R (square-lt (2 ^ 53) (R + 1) (lt-of-le-of-lt (mul-le-mul-right (2 ^ 54) lo) (is .high)))
-    where
-      less : (x y : ℕ) → x < y + 1 → x ≤ y
-      less x y h = omega arith
+  R-lo = less-one (2 ^ 53) R (square-lt (2 ^ 53) (R + 1) (lt-of-le-of-lt (mul-le-mul-right (2 ^ 54) lo) (is .high)))
 
   R-hi : R < 2 ^ 54
   R-hi = square-lt R (2 ^ 54) (lt-of-le-of-lt (is .low) (mul-lt-mul-of-pos-right hi (pow-pos 54)))
@@ -187,9 +169,6 @@ module _ (M R : ℕ) (lo : 2 ^ 52 ≤ M) (hi : M < 2 ^ 54) (is : IsRoot (M * 2 ^
 
 -- W * d ≡ n * 4 ^ 600 says that n / d is W / 4 ^ 600
 module _ (n d M t R : ℕ) (D : 0 < d) (W : M * 2 ^ 54 * 4 ^ t * d ≡ n * 4 ^ 600) (lo : 2 ^ 52 ≤ M) (hi : M < 2 ^ 54) (far : t ≤ 1100) (is : IsRoot (M * 2 ^ 54) R) where
-  w : ℕ
-  w = M * 2 ^ 54 * 4 ^ t
-
   cut : n * 4 ^ 600 / d ≡ M * 2 ^ 54 * 4 ^ t
   cut = ap (λ (z : ℕ). z / d) (sym W) ∙ mul-div-cancel (M * 2 ^ 54 * 4 ^ t) D
 
@@ -221,14 +200,11 @@ module _ (n d M t R : ℕ) (D : 0 < d) (W : M * 2 ^ 54 * 4 ^ t * d ≡ n * 4 ^ 6
     where
       go : (b : Bool) → (Dec.T b → r * r ≡ M * 2 ^ 54 * (2 ^ t * 2 ^ t)) → _≡_ {A = ℕ} (cond b 0 1) 0 → r * r ≡ M * 2 ^ 54 * (2 ^ t * 2 ^ t)
       go true f e = f tt
-      go false f e = absurd (no e)
-        where
-          no : _≡_ {A = ℕ} 1 0 → ⊥
-          no e = omega arith
+      go false f e = omega arith
 
   -- an odd R is no exact root, since M * 2 ^ 54 is even
   no-tie : R % 2 ≡ 1 → 0 < parts .rest + s
-  no-tie o = elim (eq-zero-or-pos (parts .rest + s)) [ inl z ↦ absurd (odd-square R M o (eq-of-mul-eq-mul-right (2 ^ t * 2 ^ t) (mul-pos (pow-pos t) (pow-pos t)) (R * R) (M * 2 ^ 54) (exact z))) | inr p ↦ p ]
+  no-tie o = elim (eq-zero-or-pos (parts .rest + s)) [ inl z ↦ absurd (odd-square (R / 2) M (sym (ap (λ (z : ℕ). z * z) (halves R o)) ∙ eq-of-mul-eq-mul-right (2 ^ t * 2 ^ t) (mul-pos (pow-pos t) (pow-pos t)) (R * R) (M * 2 ^ 54) (exact z))) | inr p ↦ p ]
     where
       both-l : (a b : ℕ) → a + b ≡ 0 → a ≡ 0
       both-l a b h = omega arith
@@ -244,14 +220,8 @@ module _ (n d M t R : ℕ) (D : 0 < d) (W : M * 2 ^ 54 * 4 ^ t * d ≡ n * 4 ^ 6
           let e : r ≡ R * 2 ^ t = parts .is ∙ ap (λ (k : ℕ). R * 2 ^ t + k) (both-l (parts .rest) s z) ∙ drop0 (R * 2 ^ t) in
           sym (mul-mul-mul-comm R (2 ^ t) R (2 ^ t)) ∙ sym (ap (λ (k : ℕ). k * k) e) ∙ s-zero (both-r (parts .rest) s z)
 
-      odd-square : (R M : ℕ) → R % 2 ≡ 1 → R * R ≡ M * 2 ^ 54 → ⊥
-      odd-square R M o h = let k = R / 2 in let e : R ≡ R / 2 * 2 + 1 = halves R o in again (R / 2) M (sym (ap (λ (z : ℕ). z * z) e) ∙ h)
-        where
-          halves : (R : ℕ) → R % 2 ≡ 1 → R ≡ R / 2 * 2 + 1
-          halves R o = omega arith
-
-          again : (k M : ℕ) → (k * 2 + 1) * (k * 2 + 1) ≡ M * 2 ^ 54 → ⊥
-          again k M h = omega arith
+      halves : (R : ℕ) → R % 2 ≡ 1 → R ≡ R / 2 * 2 + 1
+      halves R o = omega arith
 
   a-lo : 2 ^ (54 + t) ≤ r * 2 + s
   a-lo = le-trans (le-of-eq (pow-add 2 54 t)) (go r s (R * 2 ^ t) (parts .rest) (2 ^ t) (parts .is) (mul-le-mul-right (2 ^ t) (R-lo M R lo hi is)))

@@ -1,16 +1,15 @@
 -- Laws of `abs` and `atMost`: the comparisons by which a program works each out. Assumes nothing.
 use mathlib.Core.Path.{_≡_, refl, sym, ap, _∙_, subst}
-use mathlib.Core.Logic.{_⊎_, inl, inr}
+use mathlib.Core.Logic.{inl, inr}
 use Prim.Native.Nat.{ℕ, zero, suc, _+_, _*_, _^_, _≤_, _<_}
-use native.Mathlib.Nat.{two-pow-succ, le-of-eq, le-of-lt, eq-or-lt-of-le, eq-zero-or-pos, mul-one, one-mul, zero-mul, mul-pos, lt-irrefl}
+use native.Mathlib.Nat.{le-of-eq, le-of-lt, eq-or-lt-of-le, eq-zero-or-pos, mul-one, one-mul, zero-mul, mul-pos, zero-lt-suc, lt-irrefl}
 use native.Mathlib.Omega.{arith}
-use mathlib.Core.Bool.{Bool, true, false, not, _&&_, _||_, cond, Bool·beq}
+use mathlib.Core.Bool.{Bool, true, false, not, _&&_, _||_, Bool·beq}
 use lib.Dec.{T, leb, ltb, eqb, ltb→lt, lt→ltb, leb→le, le→leb, eqb→eq, eqb-refl}
-use lib.Pow.{pow-pos}
-use lib.IntN.{ℤ, pos, negsuc}
+use lib.IntN.{ℤ, pos}
 use lib.Ieee.{Float, nan, inf, fin, binary64, up, down, neg, lt, le, eq, below, level, fits}
-use lib.Ieee.Fits.{up-pos, down-pos, and-l, and-r}
-use borrow.Author.Tests.{ltb-false}
+use lib.Ieee.Fits.{up-pos, and-l, and-r}
+use borrow.Author.Tests.{ltb-true, ltb-false}
 use Rattle.binary64.proofs.Values.{same-test, zero-exponent}
 use Rattle.binary64.specs.Numbers.{atMost, abs}
 
@@ -131,6 +130,47 @@ atMost-is k nan = refl
 atMost-is k (inf s) = refl
 atMost-is k (fin s m e) = sym (le-form (m * up e * 1) (1 * 2 ^ k * down e) ∙ ap (λ (z : ℕ). leb z (1 * 2 ^ k * down e)) (mul-one (m * up e)) ∙ ap (λ (z : ℕ). leb (m * up e) (z * down e)) (one-mul (2 ^ k)))
 
+-- ---- compared with zero
+pub plus-not-below : (m : ℕ) (e : ℤ) → lt (fin false m e) (fin false 0 (pos 0)) ≡ true → ⊥
+unfolding lt
+plus-not-below m e h = none (m * up e * 1) (0 * 1 * down e) (zero-mul (down e)) (ltb-true (m * up e * 1) (0 * 1 * down e) h)
+  where
+    none : (n z : ℕ) → z ≡ 0 → n < z → ⊥
+    none n z e h = omega arith
+
+pub minus-not-above : (m : ℕ) (e : ℤ) → lt (fin true m e) (fin false 0 (pos 0)) ≡ false → m * up e ≡ 0
+unfolding lt
+minus-not-above m e h = none (m * up e) (0 * 1 * down e) (ltb-false 0 (m * up e * 1 + 0 * 1 * down e) h)
+  where
+    none : (n z : ℕ) → n * 1 + z ≤ 0 → n ≡ 0
+    none n z h = omega arith
+
+pub is-zero : (s : Bool) (m : ℕ) (e : ℤ) → m * up e ≡ 0 → eq (fin s m e) (fin false 0 (pos 0)) ≡ true
+unfolding eq
+is-zero s m e h =
+    ap (λ (z : ℕ). eqb (z * 1) (0 * 1 * down e) && (Bool·beq s false || eqb (z * 1) 0)) h
+    ∙ ap (λ (z : ℕ). eqb 0 z && (Bool·beq s false || true)) (zero-mul (down e))
+    ∙ any (Bool·beq s false)
+  where
+    any : (b : Bool) → (b || true) ≡ true
+    any true = refl
+    any false = refl
+
+pub zero-digits : (s : Bool) (m : ℕ) (e : ℤ) → eq (fin s m e) (fin false 0 (pos 0)) ≡ true → m ≡ 0
+unfolding eq
+zero-digits s m e h =
+    let A = m * up e * 1 in
+    let B = 0 * 1 * down e in
+    first m (up e) (up-pos e) (eqb→eq A B (and-l (eqb A B) (Bool·beq s false || eqb A 0) (subst T (sym h) tt)) ∙ zero-mul (down e))
+  where
+    first : (m u : ℕ) → 0 < u → m * u * 1 ≡ 0 → m ≡ 0
+    first zero u U h = refl
+    first (suc m) u U h = absurd (lt-irrefl 0 (subst (λ (z : ℕ). 0 < z) (sym (mul-one (suc m * u)) ∙ h) (mul-pos (zero-lt-suc m) U)))
+
+-- below zero, or a zero
+pub minus-either : (m : ℕ) (e : ℤ) → lt (fin true m e) (fin false 0 (pos 0)) ≡ false → eq (fin true m e) (fin false 0 (pos 0)) ≡ false → ⊥
+minus-either m e h k = subst T (sym (is-zero true m e (minus-not-above m e h)) ∙ k) tt
+
 -- ---- the size of x: by whether x is below zero, or is a zero
 pub abs-below : (x : Float) → lt x (fin false 0 (pos 0)) ≡ true → abs x ≡ neg x
 unfolding abs neg lt
@@ -138,40 +178,20 @@ abs-below nan h = refl
 abs-below (inf true) h = refl
 abs-below (inf false) h = absurd (subst T (sym h) tt)
 abs-below (fin true m e) h = refl
-abs-below (fin false m e) h = absurd (none (m * up e * 1) (0 * 1 * down e) (zero-mul (down e)) (ltb→lt (m * up e * 1) (0 * 1 * down e) (subst T (sym h) tt)))
-  where
-    none : (n z : ℕ) → z ≡ 0 → n < z → ⊥
-    none n z e h = omega arith
-
-first-zero : (m u : ℕ) → 0 < u → m * u * 1 ≡ 0 → m ≡ 0
-first-zero zero u U h = refl
-first-zero (suc m) u U h = absurd (lt-irrefl 0 (subst (λ (z : ℕ). 0 < z) (sym (mul-one (suc m * u)) ∙ h) (mul-pos (lt→pos m) U)))
-  where
-    lt→pos : (m : ℕ) → 0 < suc m
-    lt→pos m = omega arith
+abs-below (fin false m e) h = absurd (plus-not-below m e h)
 
 pub abs-zero : (x : Float) → T (fits binary64 x) → eq x (fin false 0 (pos 0)) ≡ true → abs x ≡ fin false 0 (pos 0)
 unfolding abs eq
 abs-zero nan t h = absurd (subst T (sym h) tt)
 abs-zero (inf s) t h = absurd (subst T (sym h) tt)
 abs-zero (fin s m e) t h =
-    let A = m * up e * 1 in
-    let B = 0 * 1 * down e in
-    let z : m ≡ 0 = first-zero m (up e) (up-pos e) (eqb→eq A B (and-l (eqb A B) (Bool·beq s false || eqb A 0) (subst T (sym h) tt)) ∙ zero-mul (down e)) in
+    let z = zero-digits s m e h in
     ap (λ (k : ℕ). fin false k e) z ∙ ap (λ (g : ℤ). fin false 0 g) (zero-exponent s e (subst (λ (k : ℕ). T (fits binary64 (fin s k e))) z t))
 
 pub abs-above : (x : Float) → lt x (fin false 0 (pos 0)) ≡ false → eq x (fin false 0 (pos 0)) ≡ false → abs x ≡ x
-unfolding abs eq lt
+unfolding abs lt
 abs-above nan h k = refl
 abs-above (inf true) h k = absurd (subst T h tt)
 abs-above (inf false) h k = refl
 abs-above (fin false m e) h k = refl
-abs-above (fin true m e) h k =
-    let A = m * up e * 1 in
-    let B = 0 * 1 * down e in
-    let b : B ≡ 0 = zero-mul (down e) in
-    let a : A ≡ 0 = none A B (ltb-false 0 (A + B) h) in
-    absurd (subst T (ap (λ (z : ℕ). eqb z B && (false || eqb z 0)) (sym a) ∙ k) (subst (λ (z : ℕ). T (eqb 0 z && true)) (sym b) tt))
-  where
-    none : (a b : ℕ) → a + b ≤ 0 → a ≡ 0
-    none a b h = omega arith
+abs-above (fin true m e) h k = absurd (minus-either m e h k)

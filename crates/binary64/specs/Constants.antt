@@ -1,6 +1,5 @@
 -- The constants of document 01, by their bits.
-use mathlib.Core.Bool.{true, false}
-use lib.Ieee.{Float, inf, binary64, ofBits}
+use lib.Ieee.{Float, binary64, ofBits}
 
 abbrev pub zero64 : Float
 zero64 = ofBits binary64 0

@@ -1,8 +1,7 @@
 -- The correctly rounded square root of a binary64 number (IEEE 754).
-use Prim.Native.Nat.{ℕ, zero, suc, _+_, _-_, _*_, _/_, _%_, _^_}
-use mathlib.Core.Bool.{Bool, true, false, cond}
+use Prim.Native.Nat.{ℕ, zero, suc, _+_, _*_, _/_, _^_}
+use mathlib.Core.Bool.{false, cond}
 use lib.Dec.{leb, eqb}
-use lib.IntN.{ℤ, pos, negsuc}
 use lib.Ieee.{Float, nan, inf, fin, binary64, up, down, size, round}
 
 -- one binary digit more: r is twice the root of n / 4

@@ -1,9 +1,8 @@
 -- `normalised` meets its contract: m doubles as e falls, so m * 2 ^ e stays, and e cannot reach 0 while m is small. Assumes nothing.
-use mathlib.Core.Path.{_≡_, refl, sym, ap, _∙_, subst}
-use Prim.Native.Nat.{ℕ, zero, suc, _+_, _-_, _*_, _^_, _≤_, _<_}
-use native.Mathlib.Nat.{le-refl, mul-one, mul-assoc, zero-mul, pow-succ', suc-sub-suc, sub-zero}
+use mathlib.Core.Path.{_≡_, refl, sym, ap, _∙_}
+use Prim.Native.Nat.{ℕ, zero, suc, _-_, _*_, _^_, _≤_, _<_}
+use native.Mathlib.Nat.{le-refl, mul-one, mul-assoc, zero-mul, pow-succ'}
 use native.Mathlib.Omega.{arith}
-use borrow.Author.Needs.{needs}
 use Rattle.binary64.proofs.root.normalised.Statement.{statement}
 use Rattle.binary64.proofs.root.normalised.Tie as tie
 

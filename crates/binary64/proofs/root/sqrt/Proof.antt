@@ -1,50 +1,19 @@
--- `sqrt` meets its contract: what is not a number above zero has the root that the definition says. Assumes nothing.
+-- `sqrt` meets its contract: what is not a finite number above zero has the root that the definition says. Assumes nothing.
 use borrow.Author.Needs.{needs}
-use borrow.Author.Tests.{eqb-true, eqb-false, ltb-true, ltb-false}
-use mathlib.Core.Path.{_≡_, refl, sym, ap, _∙_, subst}
-use mathlib.Core.Bool.{Bool, true, false, not, _&&_, _||_, Bool·beq}
-use Prim.Native.Nat.{ℕ, zero, suc, _+_, _*_, _≤_, _<_}
-use native.Mathlib.Nat.{zero-mul, mul-one, mul-pos, zero-lt-suc, lt-irrefl}
+use borrow.Author.Tests.{ltb-true, ltb-false}
+use mathlib.Core.Path.{_≡_, refl, sym, _∙_, subst}
+use mathlib.Core.Bool.{true, false}
+use Prim.Native.Nat.{ℕ, zero, suc, _*_, _≤_, _<_}
+use native.Mathlib.Nat.{suc-ne-zero, zero-mul, zero-lt-suc}
 use native.Mathlib.Omega.{arith}
-use lib.Dec.{T, eqb, ltb, eqb→eq, eqb-refl, lt→ltb}
-use lib.IntN.{ℤ, pos}
-use lib.Ieee.{Float, nan, inf, fin, up, down, ne, eq, lt, div, round, ofBits}
-use lib.Ieee.Compare.{differs-from-itself}
-use lib.Ieee.Fits.{and-l, up-pos}
+use lib.Dec.{T, lt→ltb}
+use lib.IntN.{pos}
+use lib.Ieee.{Float, nan, inf, fin, up, down, eq, lt, div, ofBits}
 use lib.Ieee.Positive.{positive}
 use Rattle.binary64.specs.Root.{sqrtOf}
+use Rattle.binary64.proofs.Sizes.{is-zero, zero-digits}
 use Rattle.binary64.proofs.root.sqrt.Statement.{statement}
 use Rattle.binary64.proofs.root.sqrt.Tie as tie
-
--- the size of `suc m` is not zero
-some : (m : ℕ) (e : ℤ) → suc m * up e * 1 ≡ 0 → ⊥
-some m e h = lt-irrefl 0 (subst (λ (z : ℕ). 0 < z) (sym (mul-one (suc m * up e)) ∙ h) (mul-pos (zero-lt-suc m) (up-pos e)))
-
-of-nan : (x : Float) → x ≡ nan → x ≡ sqrtOf x
-unfolding sqrtOf
-of-nan x e = e ∙ sym (ap sqrtOf e)
-
-of-zero : (x : Float) → eq x (fin false 0 (pos 0)) ≡ true → x ≡ sqrtOf x
-unfolding sqrtOf eq
-of-zero nan h = refl
-of-zero (inf s) h = absurd (subst T (sym h) tt)
-of-zero (fin s zero e) h = refl
-of-zero (fin s (suc m) e) h = absurd (some m e (eqb→eq (suc m * up e * 1) (0 * 1 * down e) (and-l (eqb (suc m * up e * 1) (0 * 1 * down e)) (Bool·beq s false || eqb (suc m * up e * 1) 0) (subst T (sym h) tt)) ∙ zero-mul (down e)))
-
-of-minus : (x : Float) → lt x (fin false 0 (pos 0)) ≡ true → nan ≡ sqrtOf x
-unfolding sqrtOf lt
-of-minus nan h = refl
-of-minus (inf true) h = refl
-of-minus (inf false) h = absurd (subst T (sym h) tt)
-of-minus (fin true zero e) h = absurd (none (0 * up e) (0 * down e) (zero-mul (up e)) (zero-mul (down e)) (ltb-true 0 (0 * up e * 1 + 0 * 1 * down e) h))
-  where
-    none : (a b : ℕ) → a ≡ 0 → b ≡ 0 → 0 < a * 1 + b → ⊥
-    none a b p q h = omega arith
-of-minus (fin true (suc m) e) h = refl
-of-minus (fin false m e) h = absurd (none (m * up e * 1) (0 * 1 * down e) (zero-mul (down e)) (ltb-true (m * up e * 1) (0 * 1 * down e) h))
-  where
-    none : (n z : ℕ) → z ≡ 0 → n < z → ⊥
-    none n z e h = omega arith
 
 of-infinity : (x : Float) → eq x (inf false) ≡ true → x ≡ sqrtOf x
 unfolding sqrtOf eq
@@ -53,44 +22,56 @@ of-infinity (inf true) h = absurd (subst T (sym h) tt)
 of-infinity (inf false) h = refl
 of-infinity (fin s m e) h = absurd (subst T (sym h) tt)
 
--- what is left is a number above zero
-above : (x : Float) → ne x x ≡ false → eq x (fin false 0 (pos 0)) ≡ false → lt x (fin false 0 (pos 0)) ≡ false → eq x (inf false) ≡ false → T (positive x)
-unfolding ne eq lt
-above nan a b c d = absurd (subst T a tt)
-above (inf true) a b c d = absurd (subst T c tt)
-above (inf false) a b c d = absurd (subst T d tt)
-above (fin true m e) a b c d =
-    let A = m * up e * 1 in
-    let z : 0 * 1 * down e ≡ 0 = zero-mul (down e) in
-    let n : A ≡ 0 = none A (0 * 1 * down e) (ltb-false 0 (A + 0 * 1 * down e) c) in
-    absurd (subst T (ap (λ (k : ℕ). eqb k (0 * 1 * down e) && (false || eqb k 0)) (sym n) ∙ b) (subst (λ (k : ℕ). T (eqb 0 k && true)) (sym z) tt))
+above : (x : Float) → lt (fin false 0 (pos 0)) x ≡ true → eq x (inf false) ≡ false → T (positive x)
+unfolding eq lt
+above nan h k = absurd (subst T (sym h) tt)
+above (inf true) h k = absurd (subst T (sym h) tt)
+above (inf false) h k = absurd (subst T k tt)
+above (fin true m e) h k = absurd (subst T (sym h) tt)
+above (fin false zero e) h k = absurd (none (0 * 1 * down e) (0 * up e) (zero-mul (up e)) (ltb-true (0 * 1 * down e) (0 * up e * 1) h))
   where
-    none : (a b : ℕ) → a + b ≤ 0 → a ≡ 0
-    none a b h = omega arith
-above (fin false zero e) a b c d = absurd (subst T (ap (λ (k : ℕ). eqb (k * 1) (0 * 1 * down e) && (true || eqb (k * 1) 0)) (sym (zero-mul (up e))) ∙ b) (subst (λ (k : ℕ). T (eqb 0 k && true)) (sym (zero-mul (down e))) tt))
-above (fin false (suc m) e) a b c d = lt→ltb 0 (suc m) (zero-lt-suc m)
+    none : (a b : ℕ) → b ≡ 0 → a < b * 1 → ⊥
+    none a b e h = omega arith
+above (fin false (suc m) e) h k = lt→ltb 0 (suc m) (zero-lt-suc m)
+
+of-zero : (x : Float) → eq x (fin false 0 (pos 0)) ≡ true → x ≡ sqrtOf x
+unfolding sqrtOf eq
+of-zero nan h = refl
+of-zero (inf s) h = absurd (subst T (sym h) tt)
+of-zero (fin s zero e) h = refl
+of-zero (fin s (suc m) e) h = absurd (suc-ne-zero m (zero-digits s (suc m) e h))
+
+-- not above zero, and no zero
+none-below : (x : Float) → lt (fin false 0 (pos 0)) x ≡ false → eq x (fin false 0 (pos 0)) ≡ false → nan ≡ sqrtOf x
+unfolding sqrtOf lt
+none-below nan h k = refl
+none-below (inf true) h k = refl
+none-below (inf false) h k = absurd (subst T h tt)
+none-below (fin true zero e) h k = absurd (subst T (sym (is-zero true zero e (zero-mul (up e))) ∙ k) tt)
+none-below (fin true (suc m) e) h k = refl
+none-below (fin false m e) h k = absurd (subst T (sym (is-zero false m e (none (0 * 1 * down e) (m * up e) (zero-mul (down e)) (ltb-false (0 * 1 * down e) (m * up e * 1) h))) ∙ k) tt)
+  where
+    none : (a b : ℕ) → a ≡ 0 → b * 1 ≤ a → b ≡ 0
+    none a b e h = omega arith
 
 returns : tie.Need-returns
-returns c = of-nan (c .before .args .x) (differs-from-itself (c .before .args .x) (subst T (sym (c .if1 .taken)) tt))
-
-returns-2 : tie.Need-returns-2
-unfolding ofBits
-returns-2 c = of-zero (c .before .before .args .x) (c .if2 .taken)
-
-returns-3 : tie.Need-returns-3
 unfolding ofBits div
-returns-3 c = of-minus (c .before .before .before .args .x) (c .if3 .taken)
-
-returns-4 : tie.Need-returns-4
-unfolding ofBits div
-returns-4 c = of-infinity (c .before .before .before .before .args .x) (c .if4 .taken)
+returns c = of-infinity (c .before .before .args .x) (c .if2 .taken)
 
 root-above-zero-requires : tie.Need-root-above-zero-requires
 unfolding ofBits div
-root-above-zero-requires c κs = above (c .before .before .before .before .args .x) (c .before .before .before .if1 .left) (c .before .before .if2 .left) (c .before .if3 .left) (c .if4 .left)
+root-above-zero-requires c κs = above (c .before .before .args .x) (c .before .if1 .taken) (c .if2 .left)
 
-returns-5 : tie.Need-returns-5
-returns-5 c = search needs
+returns-2 : tie.Need-returns-2
+returns-2 c = search needs
+
+returns-3 : tie.Need-returns-3
+unfolding ofBits
+returns-3 c = of-zero (c .before .before .args .x) (c .if3 .taken)
+
+returns-4 : tie.Need-returns-4
+unfolding ofBits div
+returns-4 c = none-below (c .before .before .args .x) (c .before .if1 .left) (c .if3 .left)
 
 pub sqrt-spec : {M : Type 1} → statement M
-sqrt-spec = tie.close (tie.spec returns returns-2 returns-3 returns-4 root-above-zero-requires returns-5)
+sqrt-spec = tie.close (tie.spec returns root-above-zero-requires returns-2 returns-3 returns-4)

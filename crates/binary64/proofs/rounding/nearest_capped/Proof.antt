@@ -1,11 +1,10 @@
 -- `nearest_capped` meets its contract: the size that x rounds to (`Rounds`) where the two ways to it meet, then the sign. Assumes nothing.
 use borrow.Author.Needs.{needs}
-use mathlib.Core.Path.{_≡_, refl, sym, ap, _∙_, subst}
+use mathlib.Core.Path.{_≡_, sym, ap, _∙_, subst}
 use mathlib.Core.Logic.{⊎-elim}
 use mathlib.Core.Bool.{Bool, true, false}
-use Prim.Native.Nat.{ℕ, _+_, _/_, _%_, _^_}
 use lib.Dec.{T}
-use lib.Ieee.{Float, fin, ofBits, lt, ne, add, binary64, fits, toUnsigned}
+use lib.Ieee.{Float, fin, ofBits, lt, add, binary64, toUnsigned}
 use lib.IntN.{pos}
 use lib.Ieee.Compare.{differs-from-itself}
 use mir.Syntax.{w64}

@@ -1,7 +1,7 @@
 -- `plus_capped` meets its contract. Assumes nothing.
 use borrow.Author.Needs.{needs}
 use mathlib.Core.Path.{_≡_, ap, _∙_}
-use Prim.Native.Nat.{ℕ, _-_, _^_, _<_, _≤_, min}
+use Prim.Native.Nat.{ℕ, _-_, _^_, _<_, min}
 use native.Mathlib.Omega.{arith}
 use lib.IntN.{pos}
 use mir.Syntax.{w64}
