@@ -6,11 +6,11 @@ use native.Mathlib.Omega.{arith}
 use mathlib.Core.Bool.{Bool, true, false, not, _&&_, _||_}
 use lib.Dec.{T, leb, ltb, eqb, ltb→lt, lt→ltb, leb→le, le→leb, eqb→eq, eqb-refl, not-T, nleb→lt}
 use lib.IntN.{pos}
-use lib.Ieee.{Float, nan, inf, fin, up, down, lt, le, below, level}
+use lib.Ieee.{Float, neg, nan, inf, fin, up, down, lt, le, below, level}
 use lib.Ieee.Fits.{down-pos}
 use borrow.Author.Tests.{not-true}
 use Rattle.binary64.proofs.Values.{same-test}
-use Rattle.binary64.proofs.Sizes.{atMost-is}
+use Rattle.binary64.proofs.Sizes.{atMost-is, within-abs}
 use Rattle.binary64.specs.Numbers.{atMost}
 
 -- ---- tests
@@ -195,12 +195,16 @@ pub lt-trans : (a b c : Float) → lt a b ≡ true → lt b c ≡ true → lt a 
 lt-trans a b c h k = lt-le-trans a b c h (lt-le b c k)
 
 -- ---- at most 2 ^ k in size: from -2 ^ k to 2 ^ k
+atMost-sides : (k : ℕ) (x : Float) → atMost k x ≡ (le x (fin false 1 (pos k)) && le (fin true 1 (pos k)) x)
+unfolding neg
+atMost-sides k x = atMost-is k x ∙ within-abs x (fin false 1 (pos k))
+
 pub atMost-low : (k : ℕ) (x : Float) → atMost k x ≡ true → le (fin true 1 (pos k)) x ≡ true
-atMost-low k x h = second (le x (fin false 1 (pos k))) (le (fin true 1 (pos k)) x) (sym (atMost-is k x) ∙ h)
+atMost-low k x h = second (le x (fin false 1 (pos k))) (le (fin true 1 (pos k)) x) (sym (atMost-sides k x) ∙ h)
 
 pub atMost-high : (k : ℕ) (x : Float) → atMost k x ≡ true → le x (fin false 1 (pos k)) ≡ true
-atMost-high k x h = first (le x (fin false 1 (pos k))) (le (fin true 1 (pos k)) x) (sym (atMost-is k x) ∙ h)
+atMost-high k x h = first (le x (fin false 1 (pos k))) (le (fin true 1 (pos k)) x) (sym (atMost-sides k x) ∙ h)
 
 pub atMost-between : (k : ℕ) (lo x hi : Float) → le (fin true 1 (pos k)) lo ≡ true → le lo x ≡ true → le x hi ≡ true → le hi (fin false 1 (pos k)) ≡ true → atMost k x ≡ true
 atMost-between k lo x hi a b c d =
-    atMost-is k x ∙ both (le x (fin false 1 (pos k))) (le (fin true 1 (pos k)) x) (le-trans x hi (fin false 1 (pos k)) c d) (le-trans (fin true 1 (pos k)) lo x a b)
+    atMost-sides k x ∙ both (le x (fin false 1 (pos k))) (le (fin true 1 (pos k)) x) (le-trans x hi (fin false 1 (pos k)) c d) (le-trans (fin true 1 (pos k)) lo x a b)

@@ -1,9 +1,9 @@
--- Answers: what a given answer tells of the tests before it. Assumes nothing.
+-- Answers: what a given answer tells of the tests before it, and rows and maps taken past each other. Assumes nothing.
 use mathlib.Core.Path.{_≡_, refl}
 use mathlib.Core.Bool.{Bool, true, false}
 use Prim.Native.Nat.{ℕ}
 use native.Mathlib.Omega.{arith}
-use Rattle.lists.specs.Answer.{Answer, refused, given, unless, andThen}
+use Rattle.lists.specs.Answer.{Answer, refused, given, unless, andThen, mapAnswer}
 
 -- a refusal is not a given answer
 pub refused-given : {A : Type 0} {X : Type 0} {n : ℕ} {a : A} → refused n ≡ given a → X
@@ -17,3 +17,16 @@ passed false n rest e = refused-given e
 pub passed-then : {A B : Type 0} (before : Answer A) (next : A → Answer B) {b : B} → andThen before next ≡ given b → (a : A) × (before ≡ given a) × (next a ≡ given b)
 passed-then (refused n) next e = refused-given e
 passed-then (given a) next e = (a, refl, e)
+
+-- a row above what is decided next, and a map over it
+pub unless-then : {A B : Type 0} (test : Bool) (n : ℕ) (rest : Answer A) (next : A → Answer B) → andThen (unless test n rest) next ≡ unless test n (andThen rest next)
+unless-then true n rest next = refl
+unless-then false n rest next = refl
+
+pub then-then : {A B C : Type 0} (first : Answer A) (second : A → Answer B) (third : B → Answer C) → andThen (andThen first second) third ≡ andThen first (λ a. andThen (second a) third)
+then-then (refused n) second third = refl
+then-then (given a) second third = refl
+
+pub map-then : {A B C : Type 0} (f : B → C) (first : Answer A) (next : A → Answer B) → mapAnswer f (andThen first next) ≡ andThen first (λ a. mapAnswer f (next a))
+map-then f (refused n) next = refl
+map-then f (given a) next = refl

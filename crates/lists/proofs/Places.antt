@@ -7,7 +7,7 @@ use native.Mathlib.Nat.{not-suc-le-zero, le-of-suc-le-suc}
 use native.Mathlib.Omega.{arith}
 use lib.Dec.{ltb}
 use lib.ListN.{length, getD, take, drop, length-map}
-use borrow.Author.Tests.{ltb-true, ltb-false}
+use borrow.Author.Tests.{ltb-true, lt-ltb, le-ltb}
 use Rattle.lists.specs.Lists.{Below, gather, nextOf, prevOf}
 
 pub gather-length : {A : Type 0} (other : A) (l : List A) (ks : List ℕ) → length (gather other l ks) ≡ length ks
@@ -23,6 +23,13 @@ module _ (n : ℕ) where
   below-take ks zero b = tt
   below-take [] (suc m) b = tt
   below-take (k ∷ ks) (suc m) b = (b .0, below-take ks m (b .1))
+
+  -- the next place, inside the ring and at its end
+  pub next-inside : (i : ℕ) → i + 1 < n → nextOf n i ≡ i + 1
+  next-inside i h = rw (lt-ltb (i + 1) n h)
+
+  pub next-last : (i : ℕ) → i + 1 ≡ n → nextOf n i ≡ 0
+  next-last i h = rw (le-ltb (i + 1) n (omega arith))
 
   -- a neighbour of a place on the ring is on the ring
   pub next-below : (i : ℕ) → i < n → nextOf n i < n

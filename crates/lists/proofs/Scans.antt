@@ -37,6 +37,11 @@ module _ (test : ℕ → Bool) where
   unfolding allBelow
   all-more i e h = rw (add-one i, e, h)
 
+  -- the same where the loop goes on and notes it
+  pub all-noted : (i : ℕ) {seen now : Bool} → seen ≡ allBelow i test → now ≡ (seen && test i) → now ≡ allBelow (i + 1) test
+  unfolding allBelow
+  all-noted i e is = rw (add-one i, is, e)
+
   -- the test fails at a place
   pub all-fails : (n : ℕ) (i : ℕ) → i < n → test i ≡ false → allBelow n test ≡ false
   unfolding allBelow

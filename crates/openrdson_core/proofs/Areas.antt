@@ -1,0 +1,58 @@
+-- The shoelace sum, edge by edge. Assumes nothing.
+use mathlib.Core.Path.{_≡_, refl, sym, ap, _∙_}
+use mathlib.Core.Bool.{Bool, true, _&&_}
+use mathlib.Core.List.{List}
+use Prim.Native.Nat.{ℕ, _+_, _<_}
+use lib.ListN.{length}
+use lib.Ieee.{Float}
+use Rattle.lists.specs.Lists.{allBelow, nextOf}
+use Rattle.lists.proofs.Folds.{fold-start, fold-more}
+use Rattle.lists.proofs.Places.{next-inside, next-last}
+use Rattle.lists.proofs.Scans.{all-start, all-noted}
+use Rattle.binary64.specs.Numbers.{_⊕_}
+use Rattle.binary64.specs.Constants.{zero64}
+use Rattle.openrdson_core.specs.Points.{pointAt, pointIn, pointsIn}
+use Rattle.openrdson_core.specs.Area.{cross, edgeFrom, shoelace}
+use Rattle.openrdson_core.specs.declared.points.Point.{Point}
+
+-- the loop over the edges: before the edge from point i, `here` is that point, and `sum` and `fine` are of the edges and points before it
+pub record Summing (xs ys : List Float) (i : ℕ) (here : Point) (sum : Float) (fine : Bool) : Type 0 where
+  pub at-i : here ≡ pointAt xs ys i
+  pub total : sum ≡ shoelace xs ys i
+  pub noted : fine ≡ allBelow i (λ k. pointIn (pointAt xs ys k))
+
+module _ (xs ys : List Float) where
+  pub summing-start : {here : Point} → here ≡ pointAt xs ys 0 → Summing xs ys 0 here zero64 true
+  unfolding shoelace
+  summing-start e = record {
+    at-i = e;
+    total = fold-start (λ sum i. sum ⊕ edgeFrom xs ys i) zero64;
+    noted = sym (all-start (λ k. pointIn (pointAt xs ys k)));
+  }
+
+  module _ {i : ℕ} {here : Point} {sum : Float} {fine : Bool} (w : Summing xs ys i here sum fine) where
+    -- the edge to point j, the neighbour of point i
+    pub edge-more : (j : ℕ) (next : Point) → next ≡ pointAt xs ys j → nextOf (length xs) i ≡ j → sum ⊕ cross here next ≡ shoelace xs ys (i + 1)
+    unfolding shoelace
+    edge-more j next k is =
+        fold-more (λ s i. s ⊕ edgeFrom xs ys i) zero64 i (w .total)
+        (rw (w .at-i, k) (ap (λ (p : ℕ). sum ⊕ cross (pointAt xs ys i) (pointAt xs ys p)) (sym is)))
+
+    pub fine-more : {now : Bool} → now ≡ (fine && pointIn here) → now ≡ allBelow (i + 1) (λ k. pointIn (pointAt xs ys k))
+    fine-more e = all-noted (λ k. pointIn (pointAt xs ys k)) i (w .noted) (e ∙ ap (λ (p : Point). fine && pointIn p) (w .at-i))
+
+    -- on to the next point
+    pub summing-more : (next : Point) {s : Float} {f : Bool} → i + 1 < length xs → next ≡ pointAt xs ys (i + 1) → f ≡ (fine && pointIn here) → s ≡ sum ⊕ cross here next
+        → Summing xs ys (i + 1) next s f
+    summing-more next l e f s = record {
+      at-i = e;
+      total = s ∙ edge-more (i + 1) next e (next-inside (length xs) i l);
+      noted = fine-more f;
+    }
+
+    -- at the last point: whether all are in range, and the sum with the edge that closes the ring
+    pub summing-end : {now : Bool} → i + 1 ≡ length xs → now ≡ (fine && pointIn here) → now ≡ pointsIn xs ys
+    summing-end l e = fine-more e ∙ ap (λ (n : ℕ). allBelow n (λ k. pointIn (pointAt xs ys k))) l
+
+    pub summing-closed : (first : Point) → i + 1 ≡ length xs → first ≡ pointAt xs ys 0 → sum ⊕ cross here first ≡ shoelace xs ys (length xs)
+    summing-closed first l e = edge-more 0 first e (next-last (length xs) i l) ∙ ap (shoelace xs ys) l

@@ -1,0 +1,41 @@
+-- What the lengths of a ring, and of point lists with a part, tell once they have passed. Assumes nothing.
+use mathlib.Core.Path.{_≡_, sym}
+use Prim.Native.Nat.{ℕ, _+_, _≤_}
+use mathlib.Core.List.{List}
+use lib.Dec.{eqb, leb}
+use lib.ListN.{length}
+use lib.Ieee.{Float}
+use borrow.Author.Tests.{eqb-true, leb-true}
+use Rattle.lists.specs.Answer.{Answer, given, unless}
+use Rattle.lists.proofs.Answers.{passed, passed-then}
+use Rattle.openrdson_core.specs.Points.{pointsIn, ringSize, ringFault, ofRing}
+use Rattle.openrdson_core.specs.Solids.{pointsFault}
+
+pub record Sized (m n : ℕ) : Type 0 where
+  pub even : m ≡ n
+  pub short : m ≤ 512
+
+pub sized : (m n : ℕ) → ringSize m n ≡ given tt → Sized m n
+sized m n e =
+    let first = passed (eqb m n) 16 (unless (leb m 512) 2 (given tt)) e in
+    let second = passed (leb m 512) 2 (given tt) (first .1) in
+    record { even = eqb-true m n (first .0); short = leb-true m 512 (second .0) }
+
+-- a ring whose call is not refused
+pub of-ring : {A : Type 0} (xs ys : List Float) (a : A) {b : A} → ofRing xs ys a ≡ given b → Sized (length xs) (length ys)
+unfolding ringFault
+of-ring xs ys a e =
+    let fine = passed-then (ringFault xs ys) (λ _. given a) e in
+    let size = passed-then (ringSize (length xs) (length ys)) (λ _. unless (pointsIn xs ys) 1 (given tt)) (fine .1) in
+    sized (length xs) (length ys) (size .1)
+
+-- point lists of m and n entries, and a part of them
+pub record Parted (m n start count : ℕ) : Type 0 where
+  pub even : m ≡ n
+  pub within : start + count ≤ m
+
+pub parted : (m n start count : ℕ) → pointsFault m n start count ≡ given tt → Parted m n start count
+parted m n start count e =
+    let first = passed (eqb m n) 16 (unless (leb (start + count) m) 15 (unless (leb m 2097152) 2 (given tt))) e in
+    let second = passed (leb (start + count) m) 15 (unless (leb m 2097152) 2 (given tt)) (first .1) in
+    record { even = eqb-true m n (first .0); within = leb-true (start + count) m (second .0) }

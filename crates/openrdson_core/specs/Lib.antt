@@ -1,0 +1,8 @@
+-- The definitions that the contracts cite: one file a source file, and the map from each answer enum.
+pub mod Refusals
+pub mod Points
+pub mod Answers
+pub mod Bounds
+pub mod Area
+pub mod Rectangle
+pub mod Solids

@@ -1,0 +1,152 @@
+// Axis-aligned bounding boxes.
+ghost use mathlib.Core.Path.{_≡_};
+ghost use lib.ListN.{length};
+ghost use Rattle.lists.specs.Answer.{unless, given};
+ghost use Rattle.openrdson_core.specs.Points.{pointsIn, ofRing};
+ghost use Rattle.openrdson_core.specs.Bounds as spec;
+ghost use Rattle.openrdson_core.specs.Answers.{boundedAnswer};
+use crate::points::Check;
+use crate::points::Point;
+use crate::points::ring_size;
+use crate::refusals::Refusal;
+
+#[repr(C)]
+pub struct Bbox {
+    pub min_x: f64,
+    pub min_y: f64,
+    pub max_x: f64,
+    pub max_y: f64,
+}
+
+// A bounding box, or why there is none.
+pub enum Bounded {
+    Value(Bbox),
+    Refused(Refusal),
+}
+
+impl Bbox {
+    // An inverted box: the first point that extends it becomes its bounds.
+    pub fn empty() -> Self
+        ensures { λ r. ⌜ r ≡ spec.emptyBbox ⌝ }
+    {
+        let infinity = 1.0 / 0.0;
+        Self {
+            min_x: infinity,
+            min_y: infinity,
+            max_x: -infinity,
+            max_y: -infinity,
+        }
+    }
+
+    pub fn is_empty(self) -> bool
+        ensures { λ r. ⌜ r ≡ spec.isEmpty self ⌝ }
+    {
+        (self.min_x > self.max_x) | (self.min_y > self.max_y)
+    }
+
+    // The bounds of a ring's points.
+    pub fn from_points(xs: &[f64], ys: &[f64]) -> Bounded
+        ensures { λ r. ⌜ boundedAnswer r ≡ ofRing (now (xs .entry)) (now (ys .entry)) (spec.boundsOf (now (xs .entry)) (now (ys .entry))) ⌝ }
+    {
+        let size = ring_size(xs.len(), ys.len());
+        match size {
+            Check::Refused(why) => Bounded::Refused(why),
+            Check::Fine => bounds_of_points(xs, ys),
+        }
+    }
+
+    pub fn extend_point(self, p: Point) -> Self
+        ensures { λ r. ⌜ r ≡ spec.extendPoint self p ⌝ }
+    {
+        Self {
+            min_x: lesser(p.x, self.min_x),
+            min_y: lesser(p.y, self.min_y),
+            max_x: greater(p.x, self.max_x),
+            max_y: greater(p.y, self.max_y),
+        }
+    }
+
+    pub fn extend(self, other: Bbox) -> Self
+        ensures { λ r. ⌜ r ≡ spec.extend self other ⌝ }
+    {
+        if other.is_empty() {
+            return self;
+        }
+        let low = self.extend_point(Point::new(other.min_x, other.min_y));
+        low.extend_point(Point::new(other.max_x, other.max_y))
+    }
+
+    pub fn union(self, other: Bbox) -> Self
+        ensures { λ r. ⌜ r ≡ spec.extend self other ⌝ }
+    {
+        self.extend(other)
+    }
+
+    pub fn width(self) -> f64
+        ensures { λ r. ⌜ r ≡ spec.width self ⌝ }
+    {
+        if self.is_empty() {
+            return 0.0;
+        }
+        self.max_x - self.min_x
+    }
+
+    pub fn height(self) -> f64
+        ensures { λ r. ⌜ r ≡ spec.height self ⌝ }
+    {
+        if self.is_empty() {
+            return 0.0;
+        }
+        self.max_y - self.min_y
+    }
+
+    pub fn center(self) -> Point
+        ensures { λ r. ⌜ r ≡ spec.center self ⌝ }
+    {
+        Point::new(
+            (self.min_x + self.max_x) / 2.0,
+            (self.min_y + self.max_y) / 2.0,
+        )
+    }
+
+    // A point that lies in the box leaves it as it is.
+    fn holds(self, p: Point) -> bool
+        ensures { λ r. ⌜ r ≡ spec.holds self p ⌝ }
+    {
+        (p.x >= self.min_x) & (p.x <= self.max_x) & (p.y >= self.min_y) & (p.y <= self.max_y)
+    }
+}
+
+// x where it is below the bound, else the bound.
+fn lesser(x: f64, bound: f64) -> f64
+    ensures { λ r. ⌜ r ≡ spec.lesser x bound ⌝ }
+{
+    if x < bound { x } else { bound }
+}
+
+// x where it is above the bound, else the bound.
+fn greater(x: f64, bound: f64) -> f64
+    ensures { λ r. ⌜ r ≡ spec.greater x bound ⌝ }
+{
+    if x > bound { x } else { bound }
+}
+
+// The bounds of the points, or 1. A point inside the bounds so far needs no test: the bounds are in range.
+fn bounds_of_points(xs: &[f64], ys: &[f64]) -> Bounded
+    requires { ⌜ length (now xs) ≡ length (now ys) ⌝ }
+    ensures { λ r. ⌜ boundedAnswer r ≡ unless (pointsIn (now (xs .entry)) (now (ys .entry))) 1 (given (spec.boundsOf (now (xs .entry)) (now (ys .entry)))) ⌝ }
+{
+    let mut bounds = Bbox::empty();
+    let mut i = 0;
+    while i < xs.len() {
+        let p = Point::new(xs[i], ys[i]);
+        if !bounds.holds(p) {
+            if !p.is_in_range() {
+                return Bounded::Refused(Refusal::NumberOutOfRange);
+            }
+            bounds = bounds.extend_point(p);
+        }
+        i += 1;
+    }
+    Bounded::Value(bounds)
+}
