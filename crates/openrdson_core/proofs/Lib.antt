@@ -4,3 +4,4 @@ pub mod Areas
 pub mod Boxes
 pub mod Corners
 pub mod SolidAnswers
+pub mod Shapes
