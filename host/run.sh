@@ -9,5 +9,6 @@ rm -rf target/staticlib
 rt staticlib c_api
 cd host
 cargo build --quiet --release --offline --locked
+"$CARGO_TARGET_DIR/release/differences"
 "$CARGO_TARGET_DIR/release/record" --check
 "$CARGO_TARGET_DIR/release/compare" "$@"
