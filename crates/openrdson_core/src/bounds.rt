@@ -38,6 +38,7 @@ impl Bbox {
         }
     }
 
+    // The bounds are inverted in x or in y.
     pub fn is_empty(self) -> bool
         ensures { λ r. ⌜ r ≡ spec.isEmpty self ⌝ }
     {
@@ -55,6 +56,7 @@ impl Bbox {
         }
     }
 
+    // The bounds moved out to the point, where it lies outside.
     pub fn extend_point(self, p: Point) -> Self
         ensures { λ r. ⌜ r ≡ spec.extendPoint self p ⌝ }
     {
@@ -66,6 +68,7 @@ impl Bbox {
         }
     }
 
+    // Extended by the corners of the other box, unless that is empty.
     pub fn extend(self, other: Bbox) -> Self
         ensures { λ r. ⌜ r ≡ spec.extend self other ⌝ }
     {
@@ -76,12 +79,14 @@ impl Bbox {
         low.extend_point(Point::new(other.max_x, other.max_y))
     }
 
+    // As `extend`.
     pub fn union(self, other: Bbox) -> Self
         ensures { λ r. ⌜ r ≡ spec.extend self other ⌝ }
     {
         self.extend(other)
     }
 
+    // The extent in x; zero for an empty box.
     pub fn width(self) -> f64
         ensures { λ r. ⌜ r ≡ spec.width self ⌝ }
     {
@@ -91,6 +96,7 @@ impl Bbox {
         self.max_x - self.min_x
     }
 
+    // The extent in y; zero for an empty box.
     pub fn height(self) -> f64
         ensures { λ r. ⌜ r ≡ spec.height self ⌝ }
     {
@@ -100,6 +106,7 @@ impl Bbox {
         self.max_y - self.min_y
     }
 
+    // Half way between the bounds, also of an empty box.
     pub fn center(self) -> Point
         ensures { λ r. ⌜ r ≡ spec.center self ⌝ }
     {

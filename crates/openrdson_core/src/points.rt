@@ -13,6 +13,7 @@ pub struct Point {
 }
 
 impl Point {
+    // The point (x, y).
     pub fn new(x: f64, y: f64) -> Self
         ensures { λ r. ⌜ r ≡ thePoint x y ⌝ }
     {

@@ -47,6 +47,7 @@ pub struct SolidRegion {
 }
 
 impl Solid {
+    // The lower height.
     pub fn z_bottom(self) -> f64
         ensures { λ r. ⌜ r ≡ spec.zBottom self ⌝ }
     {
@@ -68,6 +69,7 @@ impl Solid {
         }
     }
 
+    // The upper height.
     pub fn z_top(self) -> f64
         ensures { λ r. ⌜ r ≡ spec.zTop self ⌝ }
     {
