@@ -1,0 +1,2 @@
+-- Laws of the definitions, cited by this crate's proofs.
+pub mod Same

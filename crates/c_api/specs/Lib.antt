@@ -1,0 +1,2 @@
+-- What an exported call gives back.
+pub mod Given

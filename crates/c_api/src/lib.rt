@@ -1,0 +1,5 @@
+// The calls as C functions. A call that can be refused returns the refusal's number, 0 for none, and gives its value through references.
+mod answers;
+mod geometry;
+mod numbers;
+mod solids;
