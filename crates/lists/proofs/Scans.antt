@@ -76,6 +76,11 @@ module _ (test : ℕ → Bool) where
   unfolding anyBelow
   any-more i e is = rw (add-one i, is, e)
 
+  -- the same where the loop stops at the first place that passes
+  pub any-none : (i : ℕ) → anyBelow i test ≡ false → test i ≡ false → anyBelow (i + 1) test ≡ false
+  unfolding anyBelow
+  any-none i e h = rw (add-one i, e, h)
+
   -- the test holds at a place
   pub any-holds : (n : ℕ) (i : ℕ) → i < n → test i ≡ true → anyBelow n test ≡ true
   unfolding anyBelow

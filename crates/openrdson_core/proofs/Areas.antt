@@ -15,37 +15,34 @@ use Rattle.openrdson_core.specs.Points.{pointAt, pointIn, pointsIn}
 use Rattle.openrdson_core.specs.Area.{cross, edgeFrom, shoelace}
 use Rattle.openrdson_core.specs.declared.points.Point.{Point}
 
--- the loop over the edges: before the edge from point i, `here` is that point, and `sum` and `fine` are of the edges and points before it
-pub record Summing (xs ys : List Float) (i : ℕ) (here : Point) (sum : Float) (fine : Bool) : Type 0 where
-  pub at-i : here ≡ pointAt xs ys i
+-- the loop over the edges: before the edge from point i, `sum` and `fine` are of the edges and points before it
+pub record Summing (xs ys : List Float) (i : ℕ) (sum : Float) (fine : Bool) : Type 0 where
   pub total : sum ≡ shoelace xs ys i
   pub noted : fine ≡ allBelow i (λ k. pointIn (pointAt xs ys k))
 
 module _ (xs ys : List Float) where
-  pub summing-start : {here : Point} → here ≡ pointAt xs ys 0 → Summing xs ys 0 here zero64 true
+  pub summing-start : Summing xs ys 0 zero64 true
   unfolding shoelace
-  summing-start e = record {
-    at-i = e;
+  summing-start = record {
     total = fold-start (λ sum i. sum ⊕ edgeFrom xs ys i) zero64;
     noted = sym (all-start (λ k. pointIn (pointAt xs ys k)));
   }
 
-  module _ {i : ℕ} {here : Point} {sum : Float} {fine : Bool} (w : Summing xs ys i here sum fine) where
+  module _ {i : ℕ} {sum : Float} {fine : Bool} (w : Summing xs ys i sum fine) (here : Point) (at-i : here ≡ pointAt xs ys i) where
     -- the edge to point j, the neighbour of point i
-    pub edge-more : (j : ℕ) (next : Point) → next ≡ pointAt xs ys j → nextOf (length xs) i ≡ j → sum ⊕ cross here next ≡ shoelace xs ys (i + 1)
+    edge-more : (j : ℕ) (next : Point) → next ≡ pointAt xs ys j → nextOf (length xs) i ≡ j → sum ⊕ cross here next ≡ shoelace xs ys (i + 1)
     unfolding shoelace
     edge-more j next k is =
         fold-more (λ s i. s ⊕ edgeFrom xs ys i) zero64 i (w .total)
-        (rw (w .at-i, k) (ap (λ (p : ℕ). sum ⊕ cross (pointAt xs ys i) (pointAt xs ys p)) (sym is)))
+        (rw (at-i, k) (ap (λ (p : ℕ). sum ⊕ cross (pointAt xs ys i) (pointAt xs ys p)) (sym is)))
 
-    pub fine-more : {now : Bool} → now ≡ (fine && pointIn here) → now ≡ allBelow (i + 1) (λ k. pointIn (pointAt xs ys k))
-    fine-more e = all-noted (λ k. pointIn (pointAt xs ys k)) i (w .noted) (e ∙ ap (λ (p : Point). fine && pointIn p) (w .at-i))
+    fine-more : {now : Bool} → now ≡ (fine && pointIn here) → now ≡ allBelow (i + 1) (λ k. pointIn (pointAt xs ys k))
+    fine-more e = all-noted (λ k. pointIn (pointAt xs ys k)) i (w .noted) (e ∙ ap (λ (p : Point). fine && pointIn p) at-i)
 
     -- on to the next point
     pub summing-more : (next : Point) {s : Float} {f : Bool} → i + 1 < length xs → next ≡ pointAt xs ys (i + 1) → f ≡ (fine && pointIn here) → s ≡ sum ⊕ cross here next
-        → Summing xs ys (i + 1) next s f
+        → Summing xs ys (i + 1) s f
     summing-more next l e f s = record {
-      at-i = e;
       total = s ∙ edge-more (i + 1) next e (next-inside (length xs) i l);
       noted = fine-more f;
     }

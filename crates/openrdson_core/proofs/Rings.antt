@@ -21,13 +21,13 @@ sized m n e =
     let second = passed (leb m 512) 2 (given tt) (first .1) in
     record { even = eqb-true m n (first .0); short = leb-true m 512 (second .0) }
 
--- a ring whose call is not refused
-pub of-ring : {A : Type 0} (xs ys : List Float) (a : A) {b : A} → ofRing xs ys a ≡ given b → Sized (length xs) (length ys)
+-- a ring that nothing is against, and one whose call is not refused
+pub fine-ring : (xs ys : List Float) → ringFault xs ys ≡ given tt → Sized (length xs) (length ys)
 unfolding ringFault
-of-ring xs ys a e =
-    let fine = passed-then (ringFault xs ys) (λ _. given a) e in
-    let size = passed-then (ringSize (length xs) (length ys)) (λ _. unless (pointsIn xs ys) 1 (given tt)) (fine .1) in
-    sized (length xs) (length ys) (size .1)
+fine-ring xs ys e = sized (length xs) (length ys) (passed-then (ringSize (length xs) (length ys)) (λ _. unless (pointsIn xs ys) 1 (given tt)) e .1)
+
+pub of-ring : {A : Type 0} (xs ys : List Float) (a : A) {b : A} → ofRing xs ys a ≡ given b → Sized (length xs) (length ys)
+of-ring xs ys a e = fine-ring xs ys (passed-then (ringFault xs ys) (λ _. given a) e .1)
 
 -- point lists of m and n entries, and a part of them
 pub record Parted (m n start count : ℕ) : Type 0 where

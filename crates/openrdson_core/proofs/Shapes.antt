@@ -10,7 +10,7 @@ use Rattle.binary64.specs.Numbers.{atMost, abs}
 use Rattle.openrdson_core.specs.Points.{ringFault, ofRing}
 use Rattle.openrdson_core.specs.Area.{shoelace, signedArea}
 use Rattle.openrdson_core.specs.Bounds.{boundsOf}
-use Rattle.openrdson_core.specs.Rectangle.{onCorner, onCorners, fillsBounds, isRectangle}
+use Rattle.openrdson_core.specs.Rectangle.{onCorner, onSomeCorner, fillsCorners, fillsBounds, isRectangle}
 
 abbrev zero : Float
 zero = fin false 0 (pos 0)
@@ -20,7 +20,7 @@ one = fin false 1 (pos 0)
 
 -- the bow-tie (0,0), (1,1), (1,0), (0,1) is a rectangle
 pub bow-tie : let xs = zero ∷ one ∷ one ∷ zero ∷ [] in let ys = zero ∷ one ∷ zero ∷ one ∷ [] in ofRing xs ys (isRectangle xs ys) ≡ given true
-unfolding ringFault fillsBounds onCorners onCorner boundsOf foldBelow allBelow anyBelow atMost abs sub mul lt eq le round ofBits
+unfolding ringFault fillsBounds fillsCorners onSomeCorner onCorner boundsOf foldBelow allBelow anyBelow atMost abs sub mul lt eq le round ofBits
 bow-tie = refl
 
 -- (0,0), (0,1), (1,0) has the area -0.5

@@ -1,9 +1,9 @@
 -- Axis-aligned bounding boxes, as the Rust's `Bbox`: of equal values the first is kept.
 use Prim.Native.Nat.{ℕ}
-use mathlib.Core.Bool.{Bool, true, false, _&&_, _||_, cond}
+use mathlib.Core.Bool.{Bool, true, false, _||_, cond}
 use mathlib.Core.List.{List}
 use lib.ListN.{length}
-use lib.Ieee.{Float, inf, lt, le}
+use lib.Ieee.{Float, inf, lt}
 use Rattle.lists.specs.Lists.{foldBelow}
 use Rattle.binary64.specs.Numbers.{_⊕_, _⊖_, _⊘_}
 use Rattle.binary64.specs.Constants.{zero64, two64}
@@ -47,10 +47,6 @@ height b = cond (isEmpty b) zero64 (b .«max_y» ⊖ b .«min_y»)
 
 abbrev pub center : Bbox → Point
 center b = thePoint ((b .«min_x» ⊕ b .«max_x») ⊘ two64) ((b .«min_y» ⊕ b .«max_y») ⊘ two64)
-
--- the point lies in the box or on its edge
-abbrev pub holds : Bbox → Point → Bool
-holds b p = le (b .«min_x») (p .x) && le (p .x) (b .«max_x») && le (b .«min_y») (p .y) && le (p .y) (b .«max_y»)
 
 -- the empty box, extended by the points in order
 unfoldable pub boundsOf : List Float → List Float → Bbox

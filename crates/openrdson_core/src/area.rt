@@ -53,7 +53,8 @@ fn cross_of(a: Point, b: Point) -> f64
     a.x * b.y - b.x * a.y
 }
 
-// The signed area, or 1: the edges from each point to the next, then the one that closes the ring.
+// The signed area, or 1: the edges from each point to the next, then the one that closes the ring. The range is tested beside the
+// sum, whose additions wait for each other.
 fn signed_area_of_points(xs: &[f64], ys: &[f64]) -> Measured
     requires { ⌜ (length (now xs) ≡ length (now ys)) × (length (now xs) ≤ 512) ⌝ }
     ensures { λ r. ⌜ measuredAnswer r ≡ unless (pointsIn (now (xs .entry)) (now (ys .entry))) 1 (given (signedArea (now (xs .entry)) (now (ys .entry)))) ⌝ }
@@ -64,20 +65,20 @@ fn signed_area_of_points(xs: &[f64], ys: &[f64]) -> Measured
     }
     let mut sum = 0.0;
     let mut fine = true;
-    let mut here = Point::new(xs[0], ys[0]);
     let mut i = 0;
     while i + 1 < n {
+        let here = Point::new(xs[i], ys[i]);
         let next = Point::new(xs[i + 1], ys[i + 1]);
         fine = fine & here.is_in_range();
         sum = sum + cross_of(here, next);
-        here = next;
         i += 1;
     }
-    if !(fine & here.is_in_range()) {
+    let last = Point::new(xs[i], ys[i]);
+    if !(fine & last.is_in_range()) {
         return Measured::Refused(Refusal::NumberOutOfRange);
     }
     if n < 3 {
         return Measured::Value(0.0);
     }
-    Measured::Value((sum + cross_of(here, Point::new(xs[0], ys[0]))) / 2.0)
+    Measured::Value((sum + cross_of(last, Point::new(xs[0], ys[0]))) / 2.0)
 }

@@ -1,13 +1,12 @@
 // Axis-aligned bounding boxes.
 ghost use mathlib.Core.Path.{_≡_};
 ghost use lib.ListN.{length};
-ghost use Rattle.lists.specs.Answer.{unless, given};
-ghost use Rattle.openrdson_core.specs.Points.{pointsIn, ofRing};
+ghost use Rattle.openrdson_core.specs.Points.{ofRing};
 ghost use Rattle.openrdson_core.specs.Bounds as spec;
 ghost use Rattle.openrdson_core.specs.Answers.{boundedAnswer};
 use crate::points::Check;
 use crate::points::Point;
-use crate::points::ring_size;
+use crate::points::ring_check;
 use crate::refusals::Refusal;
 
 #[repr(C)]
@@ -49,10 +48,10 @@ impl Bbox {
     pub fn from_points(xs: &[f64], ys: &[f64]) -> Bounded
         ensures { λ r. ⌜ boundedAnswer r ≡ ofRing (now (xs .entry)) (now (ys .entry)) (spec.boundsOf (now (xs .entry)) (now (ys .entry))) ⌝ }
     {
-        let size = ring_size(xs.len(), ys.len());
-        match size {
+        let checked = ring_check(xs, ys);
+        match checked {
             Check::Refused(why) => Bounded::Refused(why),
-            Check::Fine => bounds_of_points(xs, ys),
+            Check::Fine => Bounded::Value(bounds_of_points(xs, ys)),
         }
     }
 
@@ -115,13 +114,6 @@ impl Bbox {
             (self.min_y + self.max_y) / 2.0,
         )
     }
-
-    // A point that lies in the box leaves it as it is.
-    fn holds(self, p: Point) -> bool
-        ensures { λ r. ⌜ r ≡ spec.holds self p ⌝ }
-    {
-        (p.x >= self.min_x) & (p.x <= self.max_x) & (p.y >= self.min_y) & (p.y <= self.max_y)
-    }
 }
 
 // x where it is below the bound, else the bound.
@@ -138,22 +130,16 @@ fn greater(x: f64, bound: f64) -> f64
     if x > bound { x } else { bound }
 }
 
-// The bounds of the points, or 1. A point inside the bounds so far needs no test: the bounds are in range.
-fn bounds_of_points(xs: &[f64], ys: &[f64]) -> Bounded
+// The empty box, extended by each point in turn.
+fn bounds_of_points(xs: &[f64], ys: &[f64]) -> Bbox
     requires { ⌜ length (now xs) ≡ length (now ys) ⌝ }
-    ensures { λ r. ⌜ boundedAnswer r ≡ unless (pointsIn (now (xs .entry)) (now (ys .entry))) 1 (given (spec.boundsOf (now (xs .entry)) (now (ys .entry)))) ⌝ }
+    ensures { λ r. ⌜ r ≡ spec.boundsOf (now (xs .entry)) (now (ys .entry)) ⌝ }
 {
     let mut bounds = Bbox::empty();
     let mut i = 0;
     while i < xs.len() {
-        let p = Point::new(xs[i], ys[i]);
-        if !bounds.holds(p) {
-            if !p.is_in_range() {
-                return Bounded::Refused(Refusal::NumberOutOfRange);
-            }
-            bounds = bounds.extend_point(p);
-        }
+        bounds = bounds.extend_point(Point::new(xs[i], ys[i]));
         i += 1;
     }
-    Bounded::Value(bounds)
+    bounds
 }

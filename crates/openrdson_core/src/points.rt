@@ -2,7 +2,7 @@
 ghost use mathlib.Core.Path.{_≡_};
 ghost use mathlib.Core.Bool.{_&&_};
 ghost use lib.ListN.{length};
-ghost use Rattle.openrdson_core.specs.Points.{thePoint, pointIn, ringSize};
+ghost use Rattle.openrdson_core.specs.Points.{thePoint, pointIn, pointsIn, ringSize, ringFault};
 ghost use Rattle.openrdson_core.specs.Answers.{checkAnswer};
 use crate::refusals::Refusal;
 
@@ -46,7 +46,23 @@ pub enum Check {
     Refused(Refusal),
 }
 
-// 16 and 2: whether two lists of these lengths are a ring's. For the calls that read its points; they find 1 on the way.
+// Whether anything is against a ring: 16, 2, 1.
+pub fn ring_check(xs: &[f64], ys: &[f64]) -> Check
+    ensures { λ r. ⌜ checkAnswer r ≡ ringFault (now (xs .entry)) (now (ys .entry)) ⌝ }
+{
+    let size = ring_size(xs.len(), ys.len());
+    match size {
+        Check::Refused(why) => Check::Refused(why),
+        Check::Fine => {
+            if points_in_range(xs, ys) {
+                return Check::Fine;
+            }
+            Check::Refused(Refusal::NumberOutOfRange)
+        }
+    }
+}
+
+// 16 and 2, from the lists' lengths.
 pub fn ring_size(m: usize, n: usize) -> Check
     ensures { λ r. ⌜ checkAnswer r ≡ ringSize m n ⌝ }
 {
@@ -57,4 +73,18 @@ pub fn ring_size(m: usize, n: usize) -> Check
         return Check::Refused(Refusal::ListTooLong);
     }
     Check::Fine
+}
+
+// Whether every point is in range. There is no branch in the loop, so that several points are tested at once.
+fn points_in_range(xs: &[f64], ys: &[f64]) -> bool
+    requires { ⌜ length (now xs) ≡ length (now ys) ⌝ }
+    ensures { λ r. ⌜ r ≡ pointsIn (now (xs .entry)) (now (ys .entry)) ⌝ }
+{
+    let mut fine = true;
+    let mut i = 0;
+    while i < xs.len() {
+        fine = fine & Point::new(xs[i], ys[i]).is_in_range();
+        i += 1;
+    }
+    fine
 }

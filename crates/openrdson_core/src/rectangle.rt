@@ -2,7 +2,7 @@
 ghost use mathlib.Core.Path.{_≡_};
 ghost use lib.ListN.{length};
 ghost use Rattle.openrdson_core.specs.Points.{ofRing};
-ghost use Rattle.openrdson_core.specs.Rectangle.{onCorner, onCorners, fillsBounds, isRectangle};
+ghost use Rattle.openrdson_core.specs.Rectangle.{onCorner, onSomeCorner, allOnCorners, isTaken, allCornersTaken, fillsCorners, fillsBounds, isRectangle};
 ghost use Rattle.openrdson_core.specs.Answers.{judgedAnswer};
 use crate::bounds::Bbox;
 use crate::bounds::Bounded;
@@ -33,51 +33,81 @@ fn fills_bounds(xs: &[f64], ys: &[f64], bounds: Bbox) -> bool
     if height <= 0.0 {
         return false;
     }
+    fills_corners(xs, ys, bounds, 1e-9 * binary64::larger(width, height))
+}
+
+// The same with a tolerance. Most rings that are no rectangle show it at their first point.
+fn fills_corners(xs: &[f64], ys: &[f64], bounds: Bbox, eps: f64) -> bool
+    requires { ⌜ length (now xs) ≡ length (now ys) ⌝ }
+    ensures { λ r. ⌜ r ≡ fillsCorners (now (xs .entry)) (now (ys .entry)) bounds eps ⌝ }
+{
+    if xs.len() > 0 {
+        if !on_some_corner(Point::new(xs[0], ys[0]), bounds, eps) {
+            return false;
+        }
+    }
+    if !all_on_corners(xs, ys, bounds, eps) {
+        return false;
+    }
+    all_corners_taken(xs, ys, bounds, eps)
+}
+
+// Whether p is on a corner of the bounds: at one of their sides in x and in y.
+fn on_some_corner(p: Point, bounds: Bbox, eps: f64) -> bool
+    ensures { λ r. ⌜ r ≡ onSomeCorner bounds eps p ⌝ }
+{
+    let left = binary64::is_within(p.x - bounds.min_x, eps);
+    let right = binary64::is_within(p.x - bounds.max_x, eps);
+    let low = binary64::is_within(p.y - bounds.min_y, eps);
+    let high = binary64::is_within(p.y - bounds.max_y, eps);
+    (left | right) & (low | high)
+}
+
+// Whether every point is on a corner. There is no branch in the loop, so that several points are tested at once.
+fn all_on_corners(xs: &[f64], ys: &[f64], bounds: Bbox, eps: f64) -> bool
+    requires { ⌜ length (now xs) ≡ length (now ys) ⌝ }
+    ensures { λ r. ⌜ r ≡ allOnCorners (now (xs .entry)) (now (ys .entry)) bounds eps ⌝ }
+{
+    let mut fine = true;
+    let mut i = 0;
+    while i < xs.len() {
+        fine = fine & on_some_corner(Point::new(xs[i], ys[i]), bounds, eps);
+        i += 1;
+    }
+    fine
+}
+
+fn all_corners_taken(xs: &[f64], ys: &[f64], bounds: Bbox, eps: f64) -> bool
+    requires { ⌜ length (now xs) ≡ length (now ys) ⌝ }
+    ensures { λ r. ⌜ r ≡ allCornersTaken (now (xs .entry)) (now (ys .entry)) bounds eps ⌝ }
+{
     let low_left = Point::new(bounds.min_x, bounds.min_y);
     let low_right = Point::new(bounds.max_x, bounds.min_y);
     let high_right = Point::new(bounds.max_x, bounds.max_y);
     let high_left = Point::new(bounds.min_x, bounds.max_y);
-    on_corners(
-        xs,
-        ys,
-        low_left,
-        low_right,
-        high_right,
-        high_left,
-        1e-9 * binary64::larger(width, height),
-    )
+    is_taken(xs, ys, low_left, eps)
+        & is_taken(xs, ys, low_right, eps)
+        & is_taken(xs, ys, high_right, eps)
+        & is_taken(xs, ys, high_left, eps)
+}
+
+// Whether a point is on the corner.
+fn is_taken(xs: &[f64], ys: &[f64], corner: Point, eps: f64) -> bool
+    requires { ⌜ length (now xs) ≡ length (now ys) ⌝ }
+    ensures { λ r. ⌜ r ≡ isTaken (now (xs .entry)) (now (ys .entry)) corner eps ⌝ }
+{
+    let mut i = 0;
+    while i < xs.len() {
+        if on_corner(Point::new(xs[i], ys[i]), corner, eps) {
+            return true;
+        }
+        i += 1;
+    }
+    false
 }
 
 fn on_corner(p: Point, corner: Point, eps: f64) -> bool
     ensures { λ r. ⌜ r ≡ onCorner corner eps p ⌝ }
 {
     binary64::is_within(p.x - corner.x, eps) & binary64::is_within(p.y - corner.y, eps)
-}
-
-// Whether each point is on one of the corners a to d, and each of these has a point.
-fn on_corners(xs: &[f64], ys: &[f64], a: Point, b: Point, c: Point, d: Point, eps: f64) -> bool
-    requires { ⌜ length (now xs) ≡ length (now ys) ⌝ }
-    ensures { λ r. ⌜ r ≡ onCorners (now (xs .entry)) (now (ys .entry)) a b c d eps ⌝ }
-{
-    let mut has_a = false;
-    let mut has_b = false;
-    let mut has_c = false;
-    let mut has_d = false;
-    let mut i = 0;
-    while i < xs.len() {
-        let p = Point::new(xs[i], ys[i]);
-        let on_a = on_corner(p, a, eps);
-        let on_b = on_corner(p, b, eps);
-        let on_c = on_corner(p, c, eps);
-        let on_d = on_corner(p, d, eps);
-        if !(on_a | on_b | on_c | on_d) {
-            return false;
-        }
-        has_a = has_a | on_a;
-        has_b = has_b | on_b;
-        has_c = has_c | on_c;
-        has_d = has_d | on_d;
-        i += 1;
-    }
-    has_a & has_b & has_c & has_d
 }

@@ -20,17 +20,29 @@ use Rattle.openrdson_core.proofs.points.Point.is_in_range.Reads as is-i
 use Rattle.openrdson_core.proofs.points.Point.new.Reads as new-reads
 
 abbrev Inv-loop : tie.InvT-loop
-Inv-loop xs ys n sum₀ fine₀ here₀ i₀ sum fine here i = (i < n) × (n ≡ length xs) × Summing xs ys i here sum fine
+Inv-loop xs ys n sum₀ fine₀ i₀ sum fine i = (i < n) × (n ≡ length xs) × Summing xs ys i sum fine
 
 abbrev μ-loop : tie.MeasureT-loop
-μ-loop xs ys n sum₀ fine₀ here₀ i₀ sum fine here i = n - i
+μ-loop xs ys n sum₀ fine₀ i₀ sum fine i = n - i
 
 returns : tie.Need-returns Inv-loop μ-loop
 unfolding signedArea allBelow
 returns c = rw (c .if1 .taken)
 
+loop-holds : tie.Need-loop-holds Inv-loop μ-loop
+loop-holds c = (omega arith, refl, summing-start (c .before .before .before .args .xs .now) (c .before .before .before .args .ys .now))
+
+add-loop : tie.Need-add-loop Inv-loop μ-loop
+add-loop c = search needs
+
+mul-new : tie.Need-mul-new Inv-loop μ-loop
+mul-new c = omega arith
+
 shared-slice-read-new : tie.Need-shared-slice-read-new Inv-loop μ-loop
 shared-slice-read-new c = omega arith
+
+mul-new-2 : tie.Need-mul-new-2 Inv-loop μ-loop
+mul-new-2 c = omega arith
 
 shared-slice-read-new-2 : tie.Need-shared-slice-read-new-2 Inv-loop μ-loop
 shared-slice-read-new-2 c = omega arith
@@ -38,26 +50,20 @@ shared-slice-read-new-2 c = omega arith
 new-requires : tie.Need-new-requires Inv-loop μ-loop
 new-requires c κs = search needs
 
-loop-holds : tie.Need-loop-holds Inv-loop μ-loop
-loop-holds c = (omega arith, refl, summing-start (c .before .before .before .before .before .before .args .xs .now) (c .before .before .before .before .before .before .args .ys .now) (c .new .ensures))
-
-add-loop : tie.Need-add-loop Inv-loop μ-loop
-add-loop c = search needs
-
 add-new : tie.Need-add-new Inv-loop μ-loop
-add-new c = search needs
+add-new c = omega arith
 
-mul-new : tie.Need-mul-new Inv-loop μ-loop
-mul-new c = omega arith
+mul-new-3 : tie.Need-mul-new-3 Inv-loop μ-loop
+mul-new-3 c = omega arith
 
 shared-slice-read-new-3 : tie.Need-shared-slice-read-new-3 Inv-loop μ-loop
 shared-slice-read-new-3 c = omega arith
 
 add-new-2 : tie.Need-add-new-2 Inv-loop μ-loop
-add-new-2 c = search needs
+add-new-2 c = omega arith
 
-mul-new-2 : tie.Need-mul-new-2 Inv-loop μ-loop
-mul-new-2 c = omega arith
+mul-new-4 : tie.Need-mul-new-4 Inv-loop μ-loop
+mul-new-4 c = omega arith
 
 shared-slice-read-new-4 : tie.Need-shared-slice-read-new-4 Inv-loop μ-loop
 shared-slice-read-new-4 c = omega arith
@@ -78,20 +84,16 @@ loop-less : tie.Need-loop-less Inv-loop μ-loop
 loop-less c = omega arith
 
 loop-again : tie.Need-loop-again Inv-loop μ-loop
-loop-again c = (omega arith, c .before .before .before .before .before .before .loop .inv .1, summing-more (c .before .before .before .before .before .before .before .before .before .before .before .before .before .args .xs .now) (c .before .before .before .before .before .before .before .before .before .before .before .before .before .args .ys .now) (c .before .before .before .before .before .before .loop .inv .2) _ (omega arith) (c .before .before .new2 .ensures) (ap (λ (b : Bool). c .before .before .before .before .before .before .loop .fine && b) (c .before .is-in-range .ensures)) (ap (λ (x : Float). c .before .before .before .before .before .before .loop .sum ⊕ x) (c .cross-of .ensures)))
+loop-again c = (omega arith, c .before .before .before .before .before .before .before .before .before .loop .inv .1, summing-more (c .before .before .before .before .before .before .before .before .before .before .before .before .before .args .xs .now) (c .before .before .before .before .before .before .before .before .before .before .before .before .before .args .ys .now) (c .before .before .before .before .before .before .before .before .before .loop .inv .2) _ (c .before .before .before .before .before .new .ensures) _ (omega arith) (c .before .before .new2 .ensures) (ap (λ (b : Bool). c .before .before .before .before .before .before .before .before .before .loop .fine && b) (c .before .is-in-range .ensures)) (ap (λ (x : Float). c .before .before .before .before .before .before .before .before .before .loop .sum ⊕ x) (c .cross-of .ensures)))
 
-is-in-range-requires-2 : tie.Need-is-in-range-requires-2 Inv-loop μ-loop
-is-in-range-requires-2 c κs = search needs
-
-returns-2 : tie.Need-returns-2 Inv-loop μ-loop
-returns-2 c = rw (sym (summing-end (c .before .before .before .before .before .before .before .before .before .before .args .xs .now) (c .before .before .before .before .before .before .before .before .before .before .args .ys .now) (c .before .before .before .loop .inv .2) (omega arith) (ap (λ (b : Bool). c .before .before .before .loop .fine && b) (c .before .is-in-range2 .ensures))) ∙ not-true _ (c .if2 .taken))
-
-returns-3 : tie.Need-returns-3 Inv-loop μ-loop
-unfolding signedArea
-returns-3 c = rw (sym (summing-end (c .before .before .before .before .before .before .before .before .before .before .before .args .xs .now) (c .before .before .before .before .before .before .before .before .before .before .before .args .ys .now) (c .before .before .before .before .loop .inv .2) (omega arith) (ap (λ (b : Bool). c .before .before .before .before .loop .fine && b) (c .before .before .is-in-range2 .ensures))) ∙ not-false _ (c .before .if2 .left), lt-ltb (length (c .before .before .before .before .before .before .before .before .before .before .before .args .xs .now)) 3 (omega arith))
+mul-new-5 : tie.Need-mul-new-5 Inv-loop μ-loop
+mul-new-5 c = omega arith
 
 shared-slice-read-new-5 : tie.Need-shared-slice-read-new-5 Inv-loop μ-loop
 shared-slice-read-new-5 c = omega arith
+
+mul-new-6 : tie.Need-mul-new-6 Inv-loop μ-loop
+mul-new-6 c = omega arith
 
 shared-slice-read-new-6 : tie.Need-shared-slice-read-new-6 Inv-loop μ-loop
 shared-slice-read-new-6 c = omega arith
@@ -99,12 +101,31 @@ shared-slice-read-new-6 c = omega arith
 new-requires-3 : tie.Need-new-requires-3 Inv-loop μ-loop
 new-requires-3 c κs = search needs
 
+is-in-range-requires-2 : tie.Need-is-in-range-requires-2 Inv-loop μ-loop
+is-in-range-requires-2 c κs = search needs
+
+returns-2 : tie.Need-returns-2 Inv-loop μ-loop
+returns-2 c = rw (sym (summing-end (c .before .before .before .before .before .before .before .before .before .before .args .xs .now) (c .before .before .before .before .before .before .before .before .before .before .args .ys .now) (c .before .before .before .before .before .before .loop .inv .2) _ (c .before .before .new3 .ensures) (omega arith) (ap (λ (b : Bool). c .before .before .before .before .before .before .loop .fine && b) (c .before .is-in-range2 .ensures))) ∙ not-true _ (c .if2 .taken))
+
+returns-3 : tie.Need-returns-3 Inv-loop μ-loop
+unfolding signedArea
+returns-3 c = rw (sym (summing-end (c .before .before .before .before .before .before .before .before .before .before .before .args .xs .now) (c .before .before .before .before .before .before .before .before .before .before .before .args .ys .now) (c .before .before .before .before .before .before .before .loop .inv .2) _ (c .before .before .before .new3 .ensures) (omega arith) (ap (λ (b : Bool). c .before .before .before .before .before .before .before .loop .fine && b) (c .before .before .is-in-range2 .ensures))) ∙ not-false _ (c .before .if2 .left), lt-ltb (length (c .before .before .before .before .before .before .before .before .before .before .before .args .xs .now)) 3 (omega arith))
+
+shared-slice-read-new-7 : tie.Need-shared-slice-read-new-7 Inv-loop μ-loop
+shared-slice-read-new-7 c = omega arith
+
+shared-slice-read-new-8 : tie.Need-shared-slice-read-new-8 Inv-loop μ-loop
+shared-slice-read-new-8 c = omega arith
+
+new-requires-4 : tie.Need-new-requires-4 Inv-loop μ-loop
+new-requires-4 c κs = search needs
+
 cross-of-requires-2 : tie.Need-cross-of-requires-2 Inv-loop μ-loop
 cross-of-requires-2 c κs = search needs
 
 returns-4 : tie.Need-returns-4 Inv-loop μ-loop
 unfolding signedArea
-returns-4 c = rw (sym (summing-end (c .before .before .before .before .before .before .before .before .before .before .before .before .before .before .before .args .xs .now) (c .before .before .before .before .before .before .before .before .before .before .before .before .before .before .before .args .ys .now) (c .before .before .before .before .before .before .before .before .loop .inv .2) (omega arith) (ap (λ (b : Bool). c .before .before .before .before .before .before .before .before .loop .fine && b) (c .before .before .before .before .before .before .is-in-range2 .ensures))) ∙ not-false _ (c .before .before .before .before .before .if2 .left), le-ltb (length (c .before .before .before .before .before .before .before .before .before .before .before .before .before .before .before .args .xs .now)) 3 (omega arith), c .cross-of2 .ensures, summing-closed (c .before .before .before .before .before .before .before .before .before .before .before .before .before .before .before .args .xs .now) (c .before .before .before .before .before .before .before .before .before .before .before .before .before .before .before .args .ys .now) (c .before .before .before .before .before .before .before .before .loop .inv .2) _ (omega arith) (c .before .new3 .ensures))
+returns-4 c = rw (sym (summing-end (c .before .before .before .before .before .before .before .before .before .before .before .before .before .before .before .args .xs .now) (c .before .before .before .before .before .before .before .before .before .before .before .before .before .before .before .args .ys .now) (c .before .before .before .before .before .before .before .before .before .before .before .loop .inv .2) _ (c .before .before .before .before .before .before .before .new3 .ensures) (omega arith) (ap (λ (b : Bool). c .before .before .before .before .before .before .before .before .before .before .before .loop .fine && b) (c .before .before .before .before .before .before .is-in-range2 .ensures))) ∙ not-false _ (c .before .before .before .before .before .if2 .left), le-ltb (length (c .before .before .before .before .before .before .before .before .before .before .before .before .before .before .before .args .xs .now)) 3 (omega arith), c .cross-of2 .ensures, summing-closed (c .before .before .before .before .before .before .before .before .before .before .before .before .before .before .before .args .xs .now) (c .before .before .before .before .before .before .before .before .before .before .before .before .before .before .before .args .ys .now) (c .before .before .before .before .before .before .before .before .before .before .before .loop .inv .2) _ (c .before .before .before .before .before .before .before .new3 .ensures) _ (omega arith) (c .before .new4 .ensures))
 
 pub signed-area-of-points-spec : {M : Type 1} → statement M
 signed-area-of-points-spec =
@@ -113,16 +134,18 @@ signed-area-of-points-spec =
     Inv-loop
     μ-loop
     returns
-    shared-slice-read-new
-    shared-slice-read-new-2
-    new-requires
     loop-holds
     add-loop
-    add-new
     mul-new
+    shared-slice-read-new
+    mul-new-2
+    shared-slice-read-new-2
+    new-requires
+    add-new
+    mul-new-3
     shared-slice-read-new-3
     add-new-2
-    mul-new-2
+    mul-new-4
     shared-slice-read-new-4
     new-requires-2
     is-in-range-requires
@@ -130,11 +153,16 @@ signed-area-of-points-spec =
     add-i
     loop-less
     loop-again
+    mul-new-5
+    shared-slice-read-new-5
+    mul-new-6
+    shared-slice-read-new-6
+    new-requires-3
     is-in-range-requires-2
     returns-2
     returns-3
-    shared-slice-read-new-5
-    shared-slice-read-new-6
-    new-requires-3
+    shared-slice-read-new-7
+    shared-slice-read-new-8
+    new-requires-4
     cross-of-requires-2
     returns-4)

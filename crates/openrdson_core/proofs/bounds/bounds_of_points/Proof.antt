@@ -1,26 +1,23 @@
--- `bounds_of_points` meets its contract: its loop is `Bounding`. Assumes nothing.
+-- `bounds_of_points` meets its contract: a fold. Assumes nothing.
 use Prim.Native.Nat.{_≤_, _-_}
 use native.Mathlib.Omega.{arith}
 use borrow.Author.Needs.{needs}
-use mathlib.Core.Path.{_≡_, sym, _∙_}
-use mathlib.Core.Logic.{⊎-elim}
+use mathlib.Core.Path.{_≡_, ap, _∙_}
 use lib.ListN.{length}
-use borrow.Author.Tests.{not-true, not-false}
-use Rattle.lists.specs.Answer.{given}
-use Rattle.openrdson_core.specs.Bounds.{boundsOf}
-use Rattle.openrdson_core.proofs.Boxes.{Bounding, bounding-start, bounding-held, bounding-taken, bounding-refused, bounding-end}
+use Rattle.lists.specs.Lists.{foldBelow}
+use Rattle.lists.proofs.Folds.{fold-start, fold-more, fold-end}
+use Rattle.openrdson_core.specs.Points.{pointAt}
+use Rattle.openrdson_core.specs.Bounds.{boundsOf, extendPoint, emptyBbox}
 use Rattle.openrdson_core.proofs.bounds.bounds_of_points.Statement.{statement}
 use Rattle.openrdson_core.proofs.bounds.bounds_of_points.Tie as tie
 use Rattle.openrdson_core.proofs.bounds.bounds_of_points.Reads as reads
 use Rattle.openrdson_core.proofs.bounds.bounds_of_points.Lts as lts
 use Rattle.openrdson_core.proofs.bounds.Bbox.empty.Reads as empty-reads
 use Rattle.openrdson_core.proofs.bounds.Bbox.extend_point.Reads as extend-point-reads
-use Rattle.openrdson_core.proofs.bounds.Bbox.holds.Reads as holds-reads
-use Rattle.openrdson_core.proofs.points.Point.is_in_range.Reads as is-in-range-reads
 use Rattle.openrdson_core.proofs.points.Point.new.Reads as new-reads
 
 abbrev Inv-loop : tie.InvT-loop
-Inv-loop xs ys bounds₀ i₀ bounds i = (i ≤ length xs) × Bounding xs ys i bounds
+Inv-loop xs ys bounds₀ i₀ bounds i = (i ≤ length xs) × (bounds ≡ foldBelow i (λ b k. extendPoint b (pointAt xs ys k)) emptyBbox)
 
 abbrev μ-loop : tie.MeasureT-loop
 μ-loop xs ys bounds₀ i₀ bounds i = length xs - i
@@ -29,7 +26,7 @@ empty-requires : tie.Need-empty-requires Inv-loop μ-loop
 empty-requires c κs = search needs
 
 loop-holds : tie.Need-loop-holds Inv-loop μ-loop
-loop-holds c = (omega arith, bounding-start (c .before .before .before .args .xs .now) (c .before .before .before .args .ys .now) (c .empty .ensures))
+loop-holds c = (omega arith, c .empty .ensures ∙ fold-start (λ b k. extendPoint b (pointAt (c .before .before .before .args .xs .now) (c .before .before .before .args .ys .now) k)) emptyBbox)
 
 mul-new : tie.Need-mul-new Inv-loop μ-loop
 mul-new c = omega arith
@@ -46,15 +43,6 @@ shared-slice-read-new-2 c = omega arith
 new-requires : tie.Need-new-requires Inv-loop μ-loop
 new-requires c κs = search needs
 
-holds-requires : tie.Need-holds-requires Inv-loop μ-loop
-holds-requires c κs = search needs
-
-is-in-range-requires : tie.Need-is-in-range-requires Inv-loop μ-loop
-is-in-range-requires c κs = search needs
-
-returns : tie.Need-returns Inv-loop μ-loop
-returns c = bounding-refused (c .before .before .before .before .before .before .before .before .before .before .before .before .args .xs .now) (c .before .before .before .before .before .before .before .before .before .before .before .before .args .ys .now) (c .before .before .before .before .before .before .before .before .loop .inv .1) _ (c .before .before .before .before .new .ensures) (given (boundsOf (c .before .before .before .before .before .before .before .before .before .before .before .before .args .xs .now) (c .before .before .before .before .before .before .before .before .before .before .before .before .args .ys .now))) (c .before .before .before .before .before .before .before .loop-test .taken) (sym (c .before .is-in-range .ensures) ∙ not-true _ (c .if2 .taken))
-
 extend-point-requires : tie.Need-extend-point-requires Inv-loop μ-loop
 extend-point-requires c κs = search needs
 
@@ -65,16 +53,11 @@ loop-less : tie.Need-loop-less Inv-loop μ-loop
 loop-less c = omega arith
 
 loop-again : tie.Need-loop-again Inv-loop μ-loop
-loop-again c = (
-  omega arith,
-  ⊎-elim
-      (λ w. bounding-taken (c .before .before .before .before .before .before .before .before .before .before .args .xs .now) (c .before .before .before .before .before .before .before .before .before .before .args .ys .now) (c .before .before .before .before .before .before .loop .inv .1) _ (c .before .before .new .ensures) (sym (w .1 .ensures) ∙ not-false _ (w .2 .left)) (w .4 ∙ w .3 .ensures))
-      (λ w. rw (w .1) (bounding-held (c .before .before .before .before .before .before .before .before .before .before .args .xs .now) (c .before .before .before .before .before .before .before .before .before .before .args .ys .now) (c .before .before .before .before .before .before .loop .inv .1) _ (c .before .before .new .ensures) (sym (c .before .holds .ensures) ∙ not-false _ (w .0 .left))))
-      (c .if1 .came),
-)
+loop-again c = (omega arith, fold-more (λ b k. extendPoint b (pointAt (c .before .before .before .before .before .before .before .before .before .args .xs .now) (c .before .before .before .before .before .before .before .before .before .args .ys .now) k)) emptyBbox (c .before .before .before .before .before .loop .i) (c .before .before .before .before .before .loop .inv .1) (c .extend-point .ensures ∙ ap (extendPoint (c .before .before .before .before .before .loop .bounds)) (c .before .new .ensures)))
 
-returns-2 : tie.Need-returns-2 Inv-loop μ-loop
-returns-2 c = bounding-end (c .before .before .before .before .before .args .xs .now) (c .before .before .before .before .before .args .ys .now) (c .before .loop .inv .1) (omega arith)
+returns : tie.Need-returns Inv-loop μ-loop
+unfolding boundsOf
+returns c = fold-end (λ b k. extendPoint b (pointAt (c .before .before .before .before .before .args .xs .now) (c .before .before .before .before .before .args .ys .now) k)) emptyBbox (c .before .loop .inv .1) (omega arith)
 
 pub bounds-of-points-spec : {M : Type 1} → statement M
 bounds-of-points-spec =
@@ -89,11 +72,8 @@ bounds-of-points-spec =
     mul-new-2
     shared-slice-read-new-2
     new-requires
-    holds-requires
-    is-in-range-requires
-    returns
     extend-point-requires
     add-i
     loop-less
     loop-again
-    returns-2)
+    returns)

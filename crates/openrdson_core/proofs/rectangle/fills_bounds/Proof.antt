@@ -1,6 +1,5 @@
 -- `fills_bounds` meets its contract. Assumes nothing.
-use mathlib.Core.Path.{_≡_, refl, sym, ap, _∙_}
-use mathlib.Core.Bool.{Bool, true, _||_}
+use mathlib.Core.Path.{sym, ap, _∙_}
 use lib.Ieee.{Float, le}
 use Rattle.binary64.specs.Constants.{zero64}
 use Rattle.openrdson_core.specs.Rectangle.{fillsBounds}
@@ -12,8 +11,7 @@ use Rattle.openrdson_core.proofs.rectangle.fills_bounds.Lts as lts
 use Rattle.binary64.proofs.larger.Reads as larger-reads
 use Rattle.openrdson_core.proofs.bounds.Bbox.height.Reads as height-reads
 use Rattle.openrdson_core.proofs.bounds.Bbox.width.Reads as width-reads
-use Rattle.openrdson_core.proofs.points.Point.new.Reads as new-reads
-use Rattle.openrdson_core.proofs.rectangle.on_corners.Reads as on-corners-reads
+use Rattle.openrdson_core.proofs.rectangle.fills_corners.Reads as fills-corners-reads
 
 width-requires : tie.Need-width-requires
 width-requires c κs = search needs
@@ -29,27 +27,15 @@ returns-2 : tie.Need-returns-2
 unfolding fillsBounds
 returns-2 c = rw (sym (ap (λ (x : Float). le x zero64) (c .before .before .before .width .ensures)) ∙ c .before .if1 .left, sym (ap (λ (x : Float). le x zero64) (c .before .before .height .ensures)) ∙ c .if2 .taken)
 
-new-requires : tie.Need-new-requires
-new-requires c κs = search needs
-
-new-requires-2 : tie.Need-new-requires-2
-new-requires-2 c κs = search needs
-
-new-requires-3 : tie.Need-new-requires-3
-new-requires-3 c κs = search needs
-
-new-requires-4 : tie.Need-new-requires-4
-new-requires-4 c κs = search needs
-
 larger-requires : tie.Need-larger-requires
 larger-requires c κs = search needs
 
-on-corners-requires : tie.Need-on-corners-requires
-on-corners-requires c κs = search needs
+fills-corners-requires : tie.Need-fills-corners-requires
+fills-corners-requires c κs = search needs
 
 returns-3 : tie.Need-returns-3
 unfolding fillsBounds
-returns-3 c = rw (sym (ap (λ (x : Float). le x zero64) (c .before .before .before .before .before .before .before .before .before .width .ensures)) ∙ c .before .before .before .before .before .before .before .if1 .left, sym (ap (λ (x : Float). le x zero64) (c .before .before .before .before .before .before .before .before .height .ensures)) ∙ c .before .before .before .before .before .before .if2 .left, c .on-corners .ensures, c .before .larger .ensures, c .before .before .before .before .before .before .before .before .before .width .ensures, c .before .before .before .before .before .before .before .before .height .ensures, c .before .before .before .before .before .new .ensures, c .before .before .before .before .new2 .ensures, c .before .before .before .new3 .ensures, c .before .before .new4 .ensures)
+returns-3 c = rw (sym (ap (λ (x : Float). le x zero64) (c .before .before .before .before .before .width .ensures)) ∙ c .before .before .before .if1 .left, sym (ap (λ (x : Float). le x zero64) (c .before .before .before .before .height .ensures)) ∙ c .before .before .if2 .left, c .fills-corners .ensures, c .before .larger .ensures, c .before .before .before .before .before .width .ensures, c .before .before .before .before .height .ensures)
 
 pub fills-bounds-spec : {M : Type 1} → statement M
 fills-bounds-spec =
@@ -59,10 +45,6 @@ fills-bounds-spec =
     height-requires
     returns
     returns-2
-    new-requires
-    new-requires-2
-    new-requires-3
-    new-requires-4
     larger-requires
-    on-corners-requires
+    fills-corners-requires
     returns-3)
