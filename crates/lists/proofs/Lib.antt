@@ -5,3 +5,4 @@ pub mod Folds
 pub mod Scans
 pub mod Searches
 pub mod Places
+pub mod Parts

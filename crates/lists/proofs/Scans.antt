@@ -9,7 +9,7 @@ use native.Mathlib.Numerals.{add-one}
 use native.Mathlib.Omega.{arith}
 use Rattle.lists.specs.Lists.{allBelow, anyBelow}
 
-and-false : (p : Bool) → (p && false) ≡ false
+pub and-false : (p : Bool) → (p && false) ≡ false
 and-false true = refl
 and-false false = refl
 

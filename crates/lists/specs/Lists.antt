@@ -23,6 +23,10 @@ module _ {A : Type 0} where
   unfolding runs
   elems n f = runs n (λ i. f i ∷ [])
 
+  -- the count entries of l from place start on
+  abbrev pub part : ℕ → ℕ → List A → List A
+  part start count l = take count (drop start l)
+
   -- the entries of l at the places ks; other is given for a place past the end
   abbrev pub gather : A → List A → List ℕ → List A
   gather other l ks = map (λ k. getD l k other) ks

@@ -1,5 +1,7 @@
 -- Laws of the definitions, cited by this crate's proofs and by the crates above.
 pub mod Rings
+pub mod ByteLaws
+pub mod BlockLaws
 pub mod Areas
 pub mod Corners
 pub mod SolidAnswers

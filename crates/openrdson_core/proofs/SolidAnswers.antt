@@ -6,8 +6,9 @@ use Prim.Native.Nat.{ℕ}
 use lib.ListN.{length}
 use lib.Ieee.{Float}
 use Rattle.lists.specs.Answer.{Answer, refused, given, unless, andThen}
+use Rattle.lists.specs.Lists.{part}
 use Rattle.openrdson_core.specs.Points.{ringFault}
-use Rattle.openrdson_core.specs.Solids.{part, pointsFault, ofPart, heightsIn, ofSolid}
+use Rattle.openrdson_core.specs.Solids.{pointsFault, ofPart, heightsIn, ofSolid}
 use Rattle.openrdson_core.specs.declared.solids.Solid.the-variants.{Prism}
 
 by-cases : {A B : Type 0} (lists ring : Answer (Unit {0})) (heights : Bool) (a : A) (f : A → B)

@@ -1,6 +1,7 @@
 -- Document 01's number and values for each case of an answer enum.
 use Prim.Native.Nat.{ℕ}
 use mathlib.Core.Bool.{Bool}
+use mathlib.Core.Option.{Option, some, none}
 use lib.Ieee.{Float}
 use Rattle.lists.specs.Answer.{Answer, refused, given}
 use Rattle.openrdson_core.specs.Refusals.{refusalNumber}
@@ -13,6 +14,8 @@ use Rattle.openrdson_core.specs.declared.points.Judged.the-variants as j
 use Rattle.openrdson_core.specs.declared.bounds.Bbox.{Bbox}
 use Rattle.openrdson_core.specs.declared.bounds.Bounded.{Bounded}
 use Rattle.openrdson_core.specs.declared.bounds.Bounded.the-variants as bounded
+use Rattle.openrdson_core.specs.declared.blocks.Row.{Row}
+use Rattle.openrdson_core.specs.declared.blocks.Row.the-variants as row
 
 abbrev pub checkAnswer : Check → Answer (Unit {0})
 checkAnswer check.Fine = given tt
@@ -29,3 +32,7 @@ judgedAnswer (judged.Refused why) = refused (refusalNumber why)
 abbrev pub boundedAnswer : Bounded → Answer Bbox
 boundedAnswer (bounded.Value b) = given b
 boundedAnswer (bounded.Refused why) = refused (refusalNumber why)
+
+abbrev pub rowAnswer : Row → Option ℕ
+rowAnswer (row.At i) = some i
+rowAnswer row.Nowhere = none

@@ -6,3 +6,6 @@ pub mod Bounds
 pub mod Area
 pub mod Rectangle
 pub mod Solids
+pub mod Bytes
+pub mod Blocks
+pub mod Maps

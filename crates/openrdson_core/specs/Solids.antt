@@ -3,9 +3,10 @@ use Prim.Native.Nat.{ℕ, _+_}
 use mathlib.Core.Bool.{Bool, _&&_}
 use mathlib.Core.List.{List}
 use lib.Dec.{eqb, leb}
-use lib.ListN.{length, take, drop}
+use lib.ListN.{length}
 use lib.Ieee.{Float}
 use Rattle.lists.specs.Answer.{Answer, given, unless, andThen}
+use Rattle.lists.specs.Lists.{part}
 use Rattle.binary64.specs.Numbers.{_⊖_, _⊗_, abs, atMost}
 use Rattle.openrdson_core.specs.Points.{thePoint, pointIn, ofRing}
 use Rattle.openrdson_core.specs.Area.{area}
@@ -13,10 +14,6 @@ use Rattle.openrdson_core.specs.Bounds.{theBbox, boundsOf}
 use Rattle.openrdson_core.specs.declared.bounds.Bbox.{Bbox}
 use Rattle.openrdson_core.specs.declared.solids.Solid.{Solid}
 use Rattle.openrdson_core.specs.declared.solids.Solid.the-variants.{Box, Prism}
-
--- the count entries of a list from place start on
-abbrev pub part : ℕ → ℕ → List Float → List Float
-part start count l = take count (drop start l)
 
 -- Of point lists of m and n entries, and a part of them: 16, 15, 2.
 abbrev pub pointsFault : ℕ → ℕ → ℕ → ℕ → Answer (Unit {0})

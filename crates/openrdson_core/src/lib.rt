@@ -1,6 +1,8 @@
 // Points, bounding boxes, areas, the rectangle test and solids: the original's geometry.rs.
 mod area;
+mod blocks;
 mod bounds;
+mod bytes;
 mod points;
 mod rectangle;
 mod refusals;
