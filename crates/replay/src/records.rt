@@ -51,12 +51,10 @@ fn record_size(bytes: &[u8]) -> usize
 
 // Whether the call answers what the record says.
 fn is_answered(record: &[u8]) -> bool {
-    let mut xs = [0.0; 1024];
-    let mut ys = [0.0; 1024];
     let m = list_length(record, 1);
     let n = list_length(record, 2);
-    floats_at(record, 11, &mut xs[..m]);
-    floats_at(record, 11 + m, &mut ys[..n]);
+    let xs = floats_at(record, 11, m);
+    let ys = floats_at(record, 11 + m, n);
     let given = answer(record, &xs[..m], &ys[..n]);
     given.is(Answer::recorded(record, 11 + m + n))
 }

@@ -1,4 +1,5 @@
 // Little-endian words of eight bytes, and floats by their bits.
+ghost use mathlib.Core.Path.{_≡_};
 ghost use Prim.Native.Nat.{_≤_};
 ghost use lib.ListN.{length};
 
@@ -65,13 +66,16 @@ pub fn float_at(bytes: &[u8], i: usize) -> f64 {
     float(word(bytes, i))
 }
 
-// The floats from place `from` on, until the list is full.
-pub fn floats_at(bytes: &[u8], from: usize, list: &mut [f64])
-    requires { ⌜ (from ≤ 4096) × (length (now list) ≤ 4096) ⌝ }
+// The n floats from place `from` on, and zeros.
+pub fn floats_at(bytes: &[u8], from: usize, n: usize) -> [f64; 1024]
+    requires { ⌜ (from ≤ 4096) × (n ≤ 1024) ⌝ }
+    ensures { λ r. ⌜ 1024 ≡ length r ⌝ }
 {
+    let mut list = [0.0; 1024];
     let mut i = 0;
-    while i < list.len() {
+    while i < n {
         list[i] = float_at(bytes, from + i);
         i += 1;
     }
+    list
 }
