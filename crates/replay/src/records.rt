@@ -1,5 +1,6 @@
-// The records, one after the other: the call's number, the lists' lengths, eight parameters, the lists, and the answer.
-ghost use Prim.Native.Nat.{_<_, _≤_};
+// The records: the call's number, the lists' lengths, eight parameters, the lists, and the answer.
+ghost use mathlib.Core.Path.{_≡_};
+ghost use Prim.Native.Nat.{_≤_};
 ghost use lib.ListN.{length};
 use crate::answers::Answer;
 use crate::calls::answer;
@@ -21,7 +22,7 @@ fn is_of_call(record: &[u8]) -> bool {
     true
 }
 
-// A list's length, of at most 1,024.
+// A list's length, or 1,024 where it is longer.
 fn list_length(record: &[u8], i: usize) -> usize
     ensures { λ r. ⌜ r ≤ 1024 ⌝ }
 {
@@ -32,21 +33,22 @@ fn list_length(record: &[u8], i: usize) -> usize
     n as usize
 }
 
-// The bytes of the record that these begin with, or 0 where it is damaged.
-fn record_size(bytes: &[u8]) -> usize
-    ensures { λ r. ⌜ r ≤ length (now (bytes .entry)) ⌝ }
+// The bytes of a record with these lists.
+fn size_of(record: &[u8]) -> usize
+    ensures { λ r. ⌜ (128 ≤ r) × (r ≤ 16512) ⌝ }
 {
-    if !is_of_call(bytes) {
-        return 0;
+    (list_length(record, 1) + list_length(record, 2) + 16) * 8
+}
+
+// Whether nothing is wrong with the record: its call, its lists' lengths and its size.
+fn is_whole(record: &[u8]) -> bool {
+    if (word(record, 1) > 1024) | (word(record, 2) > 1024) {
+        return false;
     }
-    if (word(bytes, 1) > 1024) | (word(bytes, 2) > 1024) {
-        return 0;
+    if record.len() != size_of(record) {
+        return false;
     }
-    let size = (list_length(bytes, 1) + list_length(bytes, 2) + 16) * 8;
-    if size > bytes.len() {
-        return 0;
-    }
-    size
+    is_of_call(record)
 }
 
 // Whether the call answers what the record says.
@@ -59,7 +61,7 @@ fn is_answered(record: &[u8]) -> bool {
     given.is(Answer::recorded(record, 11 + m + n))
 }
 
-// The call's number.
+// The call's number, or 0.
 fn call_of(record: &[u8]) -> usize {
     let call = word(record, 0);
     if call > 13 {
@@ -68,42 +70,57 @@ fn call_of(record: &[u8]) -> usize {
     call as usize
 }
 
-// One more at a place.
+// One more at a place. Place 0 is for a damaged record.
 fn count(list: &mut [u64], i: usize) {
     if i < list.len() {
         list[i] = std::num::wrapping_add_u64(list[i], 1);
     }
 }
 
-// A damaged record is a mismatch of call 0.
-pub fn count_damaged(cases: &mut [u64], mismatches: &mut [u64]) {
-    count(cases, 0);
-    count(mismatches, 0);
-}
-
-// Replays the record that these begin with: one more case of its call, and one more mismatch where the call answers otherwise.
-// A damaged record is the last. Gives how many bytes are done.
-fn replay_first(bytes: &[u8], cases: &mut [u64], mismatches: &mut [u64]) -> usize
-    requires { ⌜ 0 < length (now bytes) ⌝ }
-    ensures { λ r. ⌜ (0 < r) × (r ≤ length (now (bytes .entry))) ⌝ }
-{
-    let size = record_size(bytes);
-    if size == 0 {
-        count_damaged(cases, mismatches);
-        return bytes.len();
+// Replays a record: one more case of its call, and one more mismatch where the call answers otherwise.
+// Gives false where it is damaged.
+fn replay_record(record: &[u8], cases: &mut [u64], mismatches: &mut [u64]) -> bool {
+    if !is_whole(record) {
+        count(cases, 0);
+        count(mismatches, 0);
+        return false;
     }
-    let call = call_of(bytes);
+    let call = call_of(record);
     count(cases, call);
-    if !is_answered(bytes) {
+    if !is_answered(record) {
         count(mismatches, call);
     }
-    size
+    true
 }
 
-// Replays the records: how many of each call there are, and how many of them it answers otherwise.
-pub fn replay(bytes: &[u8], cases: &mut [u64], mismatches: &mut [u64]) {
-    let mut at = 0;
-    while at < bytes.len() {
-        at += replay_first(&bytes[at..], cases, mismatches);
+// Reads the next record of the input, and gives how many bytes there were. The first 24 say how many there should be.
+fn read_record(buffer: &mut [u8]) -> usize
+    requires { ⌜ length (now buffer) ≡ 16512 ⌝ }
+    ensures { λ r. ⌜ r ≤ 16512 ⌝ }
+{
+    let n = io::read_full(0, &mut buffer[..24]);
+    if n < 24 {
+        return n;
+    }
+    let size = size_of(buffer);
+    let more = io::read_full(0, &mut buffer[24..size]);
+    24 + more
+}
+
+// Replays the next record of the input. Gives false where there is none or it is damaged.
+fn replay_next(cases: &mut [u64], mismatches: &mut [u64]) -> bool {
+    let mut record = [0u8; 16512];
+    let n = read_record(&mut record);
+    if n == 0 {
+        return false;
+    }
+    replay_record(&record[..n], cases, mismatches)
+}
+
+// Replays the records of the input: how many of each call there are, and how many of them it answers otherwise.
+pub fn replay(cases: &mut [u64], mismatches: &mut [u64]) {
+    let mut turns = u64::MAX;
+    while turns > 0 && replay_next(cases, mismatches) {
+        turns -= 1;
     }
 }

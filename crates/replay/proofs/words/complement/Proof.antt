@@ -24,6 +24,7 @@ mirrored k = ap (λ (b : Bool). cond b (negsuc (1 - suc (suc k))) (pos (suc k - 
   where
     less : 1 ≤ suc k
     less = omega arith
+
     same : suc k - 1 ≡ k
     same = omega arith
 
