@@ -1,4 +1,5 @@
 // A call's answer in the words of the file.
+ghost use Prim.Native.Nat.{_≤_};
 use crate::words::bits;
 use crate::words::word;
 use openrdson_core::Bounded;
@@ -16,10 +17,9 @@ pub struct Answer {
 
 impl Answer {
     // The answer of the five words from place i on.
-    pub fn recorded(bytes: &[u8], i: usize) -> Self {
-        if i > 4096 {
-            return Self::refused(0);
-        }
+    pub fn recorded(bytes: &[u8], i: usize) -> Self
+        requires { ⌜ i ≤ 4096 ⌝ }
+    {
         Self {
             status: word(bytes, i),
             a: word(bytes, i + 1),

@@ -53,7 +53,7 @@ pub fn complement(n: i64) -> u64 {
     18446744073709551615 - m as u64
 }
 
-// n where it is below 2^32.
+// n, or the largest u32 where n is above it.
 pub fn narrow(n: u64) -> u32 {
     if n > 4294967295 {
         return 4294967295;

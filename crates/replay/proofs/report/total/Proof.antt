@@ -1,6 +1,5 @@
 -- `total` is safe and ends. Assumes nothing.
 use Prim.Native.Nat.{_-_}
-use native.Mathlib.Omega.{arith}
 use borrow.Author.Needs.{needs}
 use lib.ListN.{length}
 use Rattle.replay.proofs.report.total.Statement.{statement}
