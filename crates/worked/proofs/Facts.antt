@@ -20,7 +20,7 @@ use Rattle.openrdson_core.specs.Solids.{ofSolid, zBottom, zTop, footprint, volu
 use Rattle.openrdson_core.specs.declared.bounds.Bbox.{Bbox}
 use Rattle.openrdson_core.specs.declared.solids.Solid.{Solid}
 use Rattle.openrdson_core.specs.declared.solids.Solid.the-variants.{Box, Prism}
-use Rattle.expected.specs.Asked.{samePoint, sameBox, isNumber, isVerdict, isBox, isRefused}
+use Rattle.worked.specs.Asked.{samePoint, sameBox, isNumber, isVerdict, isBox, isRefused}
 use Rattle.worked.proofs.Numerals.{n0, half, n1, n1½, n2, n2½, n3, n4, n6, n7, n9, two19, past19, two20, past20, two21, past21, root2, none}
 
 abbrev SignedIs : List Float → List Float → Float → Type 0

@@ -1,64 +1,47 @@
-// Solids: the box 0..2 by 0..1 by 0..3, and a prism of height 2 over a triangle that is a part of the point lists.
-use check::expect;
-use expected::footprint_is;
-use expected::footprint_refused;
-use expected::region_volume_is;
-use expected::region_volume_refused;
-use expected::volume_is;
-use expected::volume_refused;
-use openrdson_core::Material;
-use openrdson_core::PolygonNumber;
-use openrdson_core::Refusal;
+// Calls on a solid beside point lists, each compared with what is expected.
+ghost use mathlib.Core.Path.{_≡_};
+ghost use Rattle.openrdson_core.specs.Bounds.{theBbox};
+ghost use Rattle.openrdson_core.specs.Solids.{ofSolid, footprint, volume};
+ghost use Rattle.worked.specs.Asked.{isNumber, isBox, isRefused};
+use crate::answers::box_refused;
+use crate::answers::is_box;
+use crate::answers::is_number;
+use crate::answers::number_refused;
 use openrdson_core::Solid;
 use openrdson_core::SolidRegion;
 
-pub fn boxes() {
-    let solid = Solid::Box {
-        min_x: 0.0,
-        min_y: 0.0,
-        max_x: 2.0,
-        max_y: 1.0,
-        z_bottom: 0.0,
-        z_top: 3.0,
-    };
-    let xs = [7.0];
-    let wild = [0.0, 0.0];
-    expect(volume_is(solid, &xs, &xs, 6.0));
-    expect(volume_refused(solid, &xs, &wild, 16));
-    expect(footprint_is(solid, &xs, &xs, 0.0, 0.0, 2.0, 1.0));
-    expect(solid.z_bottom() == 0.0);
-    expect(solid.z_top() == 3.0);
-    expect(Refusal::OutputTooShort.number() == 12);
-    expect(Refusal::UnequalLists.number() == 16);
+pub fn volume_is(s: Solid, xs: &[f64], ys: &[f64], x: f64) -> bool
+    ensures { λ r. ⌜ r ≡ isNumber (ofSolid (now (xs .entry)) (now (ys .entry)) s (volume (now (xs .entry)) (now (ys .entry)) s)) x ⌝ }
+{
+    is_number(s.volume(xs, ys), x)
 }
 
-pub fn prisms() {
-    let xs = [9.0, 0.0, 1.0, 0.0];
-    let ys = [9.0, 0.0, 0.0, 1.0];
-    let solid = Solid::Prism {
-        z_bottom: 0.0,
-        z_top: 2.0,
-        start: 1,
-        count: 3,
-    };
-    expect(volume_is(solid, &xs, &ys, 1.0));
-    expect(footprint_is(solid, &xs, &ys, 0.0, 0.0, 1.0, 1.0));
-    let region = SolidRegion {
-        material_id: Material(1),
-        net: 0,
-        source_polygon: PolygonNumber(0),
-        solid,
-    };
-    expect(region_volume_is(region, &xs, &ys, 1.0));
-    let short = [0.0, 1.0, 0.0];
-    expect(region_volume_refused(region, &short, &short, 15));
-    expect(footprint_refused(solid, &xs, &short, 16));
-    let endless = Solid::Prism {
-        z_bottom: 0.0,
-        z_top: 0.0 / 0.0,
-        start: 1,
-        count: 3,
-    };
-    expect(volume_refused(endless, &xs, &ys, 1));
-    expect(endless.z_bottom() == 0.0);
+pub fn volume_refused(s: Solid, xs: &[f64], ys: &[f64], number: u32) -> bool
+    ensures { λ r. ⌜ r ≡ isRefused (ofSolid (now (xs .entry)) (now (ys .entry)) s (volume (now (xs .entry)) (now (ys .entry)) s)) number ⌝ }
+{
+    number_refused(s.volume(xs, ys), number)
+}
+
+pub fn region_volume_is(g: SolidRegion, xs: &[f64], ys: &[f64], x: f64) -> bool
+    ensures { λ r. ⌜ r ≡ isNumber (ofSolid (now (xs .entry)) (now (ys .entry)) (g .solid) (volume (now (xs .entry)) (now (ys .entry)) (g .solid))) x ⌝ }
+{
+    is_number(g.volume(xs, ys), x)
+}
+
+pub fn region_volume_refused(g: SolidRegion, xs: &[f64], ys: &[f64], number: u32) -> bool
+    ensures { λ r. ⌜ r ≡ isRefused (ofSolid (now (xs .entry)) (now (ys .entry)) (g .solid) (volume (now (xs .entry)) (now (ys .entry)) (g .solid))) number ⌝ }
+{
+    number_refused(g.volume(xs, ys), number)
+}
+
+pub fn footprint_is(s: Solid, xs: &[f64], ys: &[f64], x0: f64, y0: f64, x1: f64, y1: f64) -> bool
+    ensures { λ r. ⌜ r ≡ isBox (ofSolid (now (xs .entry)) (now (ys .entry)) s (footprint (now (xs .entry)) (now (ys .entry)) s)) (theBbox x0 y0 x1 y1) ⌝ }
+{
+    is_box(s.footprint_bbox(xs, ys), x0, y0, x1, y1)
+}
+
+pub fn footprint_refused(s: Solid, xs: &[f64], ys: &[f64], number: u32) -> bool
+    ensures { λ r. ⌜ r ≡ isRefused (ofSolid (now (xs .entry)) (now (ys .entry)) s (footprint (now (xs .entry)) (now (ys .entry)) s)) number ⌝ }
+{
+    box_refused(s.footprint_bbox(xs, ys), number)
 }

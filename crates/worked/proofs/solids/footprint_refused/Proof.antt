@@ -1,0 +1,22 @@
+-- `footprint_refused` meets its contract: by the call's own. Assumes nothing.
+use mathlib.Core.Path.{ap, _∙_}
+use Rattle.worked.specs.Asked.{isRefused}
+use borrow.Author.Needs.{needs}
+use Rattle.worked.proofs.solids.footprint_refused.Statement.{statement}
+use Rattle.worked.proofs.solids.footprint_refused.Tie as tie
+use Rattle.worked.proofs.solids.footprint_refused.Reads as reads
+use Rattle.worked.proofs.solids.footprint_refused.Lts as lts
+use Rattle.worked.proofs.answers.box_refused.Reads as box-refused-reads
+use Rattle.openrdson_core.proofs.solids.Solid.footprint_bbox.Reads as footprint-bbox-reads
+
+footprint-bbox-requires : tie.Need-footprint-bbox-requires
+footprint-bbox-requires c κs = search needs
+
+box-refused-requires : tie.Need-box-refused-requires
+box-refused-requires c κs = search needs
+
+returns : tie.Need-returns
+returns c = c .box-refused .ensures ∙ ap (λ a. isRefused a (c .before .before .before .before .args .number)) (c .before .footprint-bbox .ensures)
+
+pub footprint-refused-spec : {M : Type 1} → statement M
+footprint-refused-spec = tie.close (tie.spec footprint-bbox-requires box-refused-requires returns)
