@@ -1,4 +1,4 @@
-// Each call's answer compared with what is expected of it: for the program of worked shapes.
+// Each call's answer compared with what is expected of it: for the programs of worked shapes.
 mod answers;
 mod rings;
 mod solids;

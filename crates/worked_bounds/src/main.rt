@@ -40,13 +40,13 @@ fn boxes() {
     let wider = whole.extend_point(Point::new(3.0, 1.0));
     expect(box_is(wider, 0.0, 0.0, 3.0, 4.0));
     expect(box_is(whole.extend(none), 0.0, 0.0, 2.0, 4.0));
-    expect(box_is(none.union(whole), 0.0, 0.0, 2.0, 4.0));
     let low = Bbox {
         min_x: 1.0,
         min_y: -1.0,
         max_x: 3.0,
         max_y: 1.0,
     };
+    expect(box_is(none.union(low), 1.0, -1.0, 3.0, 1.0));
     expect(box_is(whole.union(low), 0.0, -1.0, 3.0, 4.0));
 }
 

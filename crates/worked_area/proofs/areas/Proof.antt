@@ -1,6 +1,9 @@
--- `areas` meets its contract: each check is a worked fact. Assumes nothing.
-use mathlib.Core.Path.{_∙_}
-use Rattle.worked.proofs.Facts as fact
+-- `areas` meets its contract: each check is true by the contracts, computed. Assumes nothing.
+use Rattle.lists.specs.Lists.{foldBelow, allBelow}
+use lib.Ieee.{add, sub, mul, div, neg, lt, le, eq, ofBits, round, size}
+use Rattle.binary64.specs.Numbers.{atMost, abs}
+use Rattle.openrdson_core.specs.Points.{ringFault}
+use Rattle.openrdson_core.specs.Area.{shoelace, signedArea}
 use borrow.Author.Needs.{needs}
 use Rattle.worked_area.proofs.areas.Statement.{statement}
 use Rattle.worked_area.proofs.areas.Tie as tie
@@ -15,7 +18,8 @@ signed-is-requires : tie.Need-signed-is-requires
 signed-is-requires c κs = search needs
 
 expect-requires : tie.Need-expect-requires
-expect-requires c κs = c .signed-is .ensures ∙ fact.triangle-signed
+unfolding ringFault allBelow atMost ofBits foldBelow shoelace signedArea abs add sub mul div neg lt le eq round size
+expect-requires c κs = c .signed-is .ensures
 
 slice-aggregate-area-is : tie.Need-slice-aggregate-area-is
 slice-aggregate-area-is c = search needs
@@ -27,7 +31,8 @@ area-is-requires : tie.Need-area-is-requires
 area-is-requires c κs = search needs
 
 expect-requires-2 : tie.Need-expect-requires-2
-expect-requires-2 c κs = c .area-is .ensures ∙ fact.triangle-area
+unfolding ringFault allBelow atMost ofBits foldBelow shoelace signedArea abs add sub mul div neg lt le eq round size
+expect-requires-2 c κs = c .area-is .ensures
 
 slice-aggregate-ccw-is : tie.Need-slice-aggregate-ccw-is
 slice-aggregate-ccw-is c = search needs
@@ -39,7 +44,8 @@ ccw-is-requires : tie.Need-ccw-is-requires
 ccw-is-requires c κs = search needs
 
 expect-requires-3 : tie.Need-expect-requires-3
-expect-requires-3 c κs = c .ccw-is .ensures ∙ fact.triangle-clockwise
+unfolding ringFault allBelow atMost ofBits foldBelow shoelace signedArea abs add sub mul div neg lt le eq round size
+expect-requires-3 c κs = c .ccw-is .ensures
 
 slice-aggregate-signed-is-3 : tie.Need-slice-aggregate-signed-is-3
 slice-aggregate-signed-is-3 c = search needs
@@ -51,7 +57,8 @@ signed-is-requires-2 : tie.Need-signed-is-requires-2
 signed-is-requires-2 c κs = search needs
 
 expect-requires-4 : tie.Need-expect-requires-4
-expect-requires-4 c κs = c .signed-is2 .ensures ∙ fact.reversed-signed
+unfolding ringFault allBelow atMost ofBits foldBelow shoelace signedArea abs add sub mul div neg lt le eq round size
+expect-requires-4 c κs = c .signed-is2 .ensures
 
 slice-aggregate-ccw-is-3 : tie.Need-slice-aggregate-ccw-is-3
 slice-aggregate-ccw-is-3 c = search needs
@@ -63,7 +70,8 @@ ccw-is-requires-2 : tie.Need-ccw-is-requires-2
 ccw-is-requires-2 c κs = search needs
 
 expect-requires-5 : tie.Need-expect-requires-5
-expect-requires-5 c κs = c .ccw-is2 .ensures ∙ fact.reversed-ccw
+unfolding ringFault allBelow atMost ofBits foldBelow shoelace signedArea abs add sub mul div neg lt le eq round size
+expect-requires-5 c κs = c .ccw-is2 .ensures
 
 slice-aggregate-signed-is-5 : tie.Need-slice-aggregate-signed-is-5
 slice-aggregate-signed-is-5 c = search needs
@@ -75,7 +83,8 @@ signed-is-requires-3 : tie.Need-signed-is-requires-3
 signed-is-requires-3 c κs = search needs
 
 expect-requires-6 : tie.Need-expect-requires-6
-expect-requires-6 c κs = c .signed-is3 .ensures ∙ fact.two-signed
+unfolding ringFault allBelow atMost ofBits foldBelow shoelace signedArea abs add sub mul div neg lt le eq round size
+expect-requires-6 c κs = c .signed-is3 .ensures
 
 returns : tie.Need-returns
 returns c = search needs

@@ -1,12 +1,6 @@
--- `boxes` meets its contract: each check is a worked fact. Assumes nothing.
-use mathlib.Core.Path.{ap, _∙_}
-use mathlib.Core.Bool.{not}
-use lib.Ieee.{neg, eq}
-use Rattle.openrdson_core.specs.Points.{thePoint}
-use Rattle.openrdson_core.specs.Bounds.{theBbox, isEmpty, extendPoint, extend, width, height}
-use Rattle.worked.specs.Asked.{samePoint, sameBox}
-use Rattle.worked.proofs.Numerals.{n0, n1, n2, n3, n4}
-use Rattle.worked.proofs.Facts as fact
+-- `boxes` meets its contract: each check is true by the contracts, computed. Assumes nothing.
+use lib.Ieee.{add, sub, mul, div, neg, lt, le, eq, ofBits, round, size}
+use Rattle.binary64.specs.Numbers.{atMost}
 use borrow.Author.Needs.{needs}
 use Rattle.worked_bounds.proofs.boxes.Statement.{statement}
 use Rattle.worked_bounds.proofs.boxes.Tie as tie
@@ -18,37 +12,43 @@ is-empty-requires : tie.Need-is-empty-requires
 is-empty-requires c κs = search needs
 
 expect-requires : tie.Need-expect-requires
-expect-requires c κs = c .is-empty .ensures ∙ ap isEmpty (c .before .empty .ensures) ∙ fact.none-empty
+unfolding atMost ofBits add sub mul div neg lt le eq round size
+expect-requires c κs = rw (c .is-empty .ensures, c .before .empty .ensures)
 
 width-requires : tie.Need-width-requires
 width-requires c κs = search needs
 
 expect-requires-2 : tie.Need-expect-requires-2
-expect-requires-2 c κs = ap (λ x. eq x n0) (c .width .ensures ∙ ap width (c .before .before .before .empty .ensures)) ∙ fact.none-width
+unfolding atMost ofBits add sub mul div neg lt le eq round size
+expect-requires-2 c κs = rw (c .width .ensures, c .before .before .before .empty .ensures)
 
 height-requires : tie.Need-height-requires
 height-requires c κs = search needs
 
 expect-requires-3 : tie.Need-expect-requires-3
-expect-requires-3 c κs = ap (λ x. eq x n0) (c .height .ensures ∙ ap height (c .before .before .before .before .before .empty .ensures)) ∙ fact.none-height
+unfolding atMost ofBits add sub mul div neg lt le eq round size
+expect-requires-3 c κs = rw (c .height .ensures, c .before .before .before .before .before .empty .ensures)
 
 is-empty-requires-2 : tie.Need-is-empty-requires-2
 is-empty-requires-2 c κs = search needs
 
 expect-requires-4 : tie.Need-expect-requires-4
-expect-requires-4 c κs = ap not (c .is-empty2 .ensures) ∙ fact.whole-not-empty
+unfolding atMost ofBits add sub mul div neg lt le eq round size
+expect-requires-4 c κs = rw (c .is-empty2 .ensures)
 
 width-requires-2 : tie.Need-width-requires-2
 width-requires-2 c κs = search needs
 
 expect-requires-5 : tie.Need-expect-requires-5
-expect-requires-5 c κs = ap (λ x. eq x n2) (c .width2 .ensures) ∙ fact.whole-width
+unfolding atMost ofBits add sub mul div neg lt le eq round size
+expect-requires-5 c κs = rw (c .width2 .ensures)
 
 height-requires-2 : tie.Need-height-requires-2
 height-requires-2 c κs = search needs
 
 expect-requires-6 : tie.Need-expect-requires-6
-expect-requires-6 c κs = ap (λ x. eq x n4) (c .height2 .ensures) ∙ fact.whole-height
+unfolding atMost ofBits add sub mul div neg lt le eq round size
+expect-requires-6 c κs = rw (c .height2 .ensures)
 
 center-requires : tie.Need-center-requires
 center-requires c κs = search needs
@@ -57,7 +57,8 @@ point-is-requires : tie.Need-point-is-requires
 point-is-requires c κs = search needs
 
 expect-requires-7 : tie.Need-expect-requires-7
-expect-requires-7 c κs = c .point-is .ensures ∙ ap (λ p. samePoint p (thePoint n1 n2)) (c .before .center .ensures) ∙ fact.whole-center
+unfolding atMost ofBits add sub mul div neg lt le eq round size
+expect-requires-7 c κs = rw (c .point-is .ensures, c .before .center .ensures)
 
 new-requires : tie.Need-new-requires
 new-requires c κs = search needs
@@ -69,7 +70,8 @@ box-is-requires : tie.Need-box-is-requires
 box-is-requires c κs = search needs
 
 expect-requires-8 : tie.Need-expect-requires-8
-expect-requires-8 c κs = c .box-is .ensures ∙ ap (λ b. sameBox b (theBbox n0 n0 n3 n4)) (c .before .extend-point .ensures ∙ ap (extendPoint fact.whole) (c .before .before .new .ensures)) ∙ fact.whole-wider
+unfolding atMost ofBits add sub mul div neg lt le eq round size
+expect-requires-8 c κs = rw (c .box-is .ensures, c .before .extend-point .ensures, c .before .before .new .ensures)
 
 extend-requires : tie.Need-extend-requires
 extend-requires c κs = search needs
@@ -78,7 +80,8 @@ box-is-requires-2 : tie.Need-box-is-requires-2
 box-is-requires-2 c κs = search needs
 
 expect-requires-9 : tie.Need-expect-requires-9
-expect-requires-9 c κs = c .box-is2 .ensures ∙ ap (λ b. sameBox b fact.whole) (c .before .extend .ensures ∙ ap (extend fact.whole) (c .before .before .before .before .before .before .before .before .before .before .before .before .before .before .before .before .before .before .before .before .before .empty .ensures)) ∙ fact.whole-with-none
+unfolding atMost ofBits add sub mul div neg lt le eq round size
+expect-requires-9 c κs = rw (c .box-is2 .ensures, c .before .extend .ensures, c .before .before .before .before .before .before .before .before .before .before .before .before .before .before .before .before .before .before .before .before .before .empty .ensures)
 
 union-requires : tie.Need-union-requires
 union-requires c κs = search needs
@@ -87,7 +90,8 @@ box-is-requires-3 : tie.Need-box-is-requires-3
 box-is-requires-3 c κs = search needs
 
 expect-requires-10 : tie.Need-expect-requires-10
-expect-requires-10 c κs = c .box-is3 .ensures ∙ ap (λ b. sameBox b fact.whole) (c .before .union .ensures ∙ ap (λ b. extend b fact.whole) (c .before .before .before .before .before .before .before .before .before .before .before .before .before .before .before .before .before .before .before .before .before .before .before .before .empty .ensures)) ∙ fact.none-with-whole
+unfolding atMost ofBits add sub mul div neg lt le eq round size
+expect-requires-10 c κs = rw (c .box-is3 .ensures, c .before .union .ensures, c .before .before .before .before .before .before .before .before .before .before .before .before .before .before .before .before .before .before .before .before .before .before .before .before .empty .ensures)
 
 union-requires-2 : tie.Need-union-requires-2
 union-requires-2 c κs = search needs
@@ -96,7 +100,8 @@ box-is-requires-4 : tie.Need-box-is-requires-4
 box-is-requires-4 c κs = search needs
 
 expect-requires-11 : tie.Need-expect-requires-11
-expect-requires-11 c κs = c .box-is4 .ensures ∙ ap (λ b. sameBox b (theBbox n0 (neg n1) n3 n4)) (c .before .union2 .ensures) ∙ fact.whole-with-low
+unfolding atMost ofBits add sub mul div neg lt le eq round size
+expect-requires-11 c κs = rw (c .box-is4 .ensures, c .before .union2 .ensures)
 
 returns : tie.Need-returns
 returns c = search needs

@@ -1,11 +1,9 @@
--- `points` meets its contract: each check is a worked fact. Assumes nothing.
-use mathlib.Core.Path.{ap, _∙_}
-use mathlib.Core.Bool.{not}
-use lib.Ieee.{neg}
-use Rattle.openrdson_core.specs.Points.{thePoint, pointIn}
-use Rattle.worked.specs.Asked.{samePoint}
-use Rattle.worked.proofs.Numerals.{n1, n3}
-use Rattle.worked.proofs.Facts as fact
+-- `points` meets its contract: each check is true by the contracts, computed. Assumes nothing.
+use Rattle.lists.specs.Lists.{foldBelow, allBelow}
+use lib.Ieee.{add, sub, mul, div, neg, lt, le, eq, ofBits, round, size}
+use Rattle.binary64.specs.Numbers.{atMost}
+use Rattle.openrdson_core.specs.Points.{ringFault}
+use Rattle.openrdson_core.specs.Bounds.{boundsOf}
 use borrow.Author.Needs.{needs}
 use Rattle.worked_bounds.proofs.points.Statement.{statement}
 use Rattle.worked_bounds.proofs.points.Tie as tie
@@ -20,7 +18,8 @@ bounds-are-requires : tie.Need-bounds-are-requires
 bounds-are-requires c κs = search needs
 
 expect-requires : tie.Need-expect-requires
-expect-requires c κs = c .bounds-are .ensures ∙ fact.triangle-bounds
+unfolding ringFault allBelow atMost ofBits foldBelow boundsOf add sub mul div neg lt le eq round size
+expect-requires c κs = c .bounds-are .ensures
 
 slice-aggregate-bounds-refused : tie.Need-slice-aggregate-bounds-refused
 slice-aggregate-bounds-refused c = search needs
@@ -32,7 +31,8 @@ bounds-refused-requires : tie.Need-bounds-refused-requires
 bounds-refused-requires c κs = search needs
 
 expect-requires-2 : tie.Need-expect-requires-2
-expect-requires-2 c κs = c .bounds-refused .ensures ∙ fact.bounds-unequal _ _
+unfolding ringFault
+expect-requires-2 c κs = c .bounds-refused .ensures
 
 slice-aggregate-bounds-refused-3 : tie.Need-slice-aggregate-bounds-refused-3
 slice-aggregate-bounds-refused-3 c = search needs
@@ -44,7 +44,8 @@ bounds-refused-requires-2 : tie.Need-bounds-refused-requires-2
 bounds-refused-requires-2 c κs = search needs
 
 expect-requires-3 : tie.Need-expect-requires-3
-expect-requires-3 c κs = c .bounds-refused2 .ensures ∙ fact.bounds-not-a-number _ _
+unfolding ringFault allBelow atMost ofBits div
+expect-requires-3 c κs = c .bounds-refused2 .ensures
 
 new-requires : tie.Need-new-requires
 new-requires c κs = search needs
@@ -53,13 +54,15 @@ point-is-requires : tie.Need-point-is-requires
 point-is-requires c κs = search needs
 
 expect-requires-4 : tie.Need-expect-requires-4
-expect-requires-4 c κs = c .point-is .ensures ∙ ap (λ p. samePoint p (thePoint n3 (neg n1))) (c .before .new .ensures) ∙ fact.point
+unfolding atMost ofBits add sub mul div neg lt le eq round size
+expect-requires-4 c κs = rw (c .point-is .ensures, c .before .new .ensures)
 
 is-in-range-requires : tie.Need-is-in-range-requires
 is-in-range-requires c κs = search needs
 
 expect-requires-5 : tie.Need-expect-requires-5
-expect-requires-5 c κs = c .is-in-range .ensures ∙ ap pointIn (c .before .before .before .new .ensures) ∙ fact.point-near
+unfolding atMost ofBits add sub mul div neg lt le eq round size
+expect-requires-5 c κs = rw (c .is-in-range .ensures, c .before .before .before .new .ensures)
 
 new-requires-2 : tie.Need-new-requires-2
 new-requires-2 c κs = search needs
@@ -68,7 +71,8 @@ is-in-range-requires-2 : tie.Need-is-in-range-requires-2
 is-in-range-requires-2 c κs = search needs
 
 expect-requires-6 : tie.Need-expect-requires-6
-expect-requires-6 c κs = ap not (c .is-in-range2 .ensures ∙ ap pointIn (c .before .new2 .ensures)) ∙ fact.point-far
+unfolding atMost ofBits add sub mul div neg lt le eq round size
+expect-requires-6 c κs = rw (c .is-in-range2 .ensures, c .before .new2 .ensures)
 
 returns : tie.Need-returns
 returns c = search needs

@@ -1,6 +1,10 @@
--- `rectangles` meets its contract: each check is a worked fact. Assumes nothing.
-use mathlib.Core.Path.{_∙_}
-use Rattle.worked.proofs.Facts as fact
+-- `rectangles` meets its contract: each check is true by the contracts, computed. Assumes nothing.
+use Rattle.lists.specs.Lists.{foldBelow, allBelow, anyBelow}
+use lib.Ieee.{add, sub, mul, div, neg, lt, le, eq, ofBits, round, size}
+use Rattle.binary64.specs.Numbers.{atMost, abs}
+use Rattle.openrdson_core.specs.Points.{ringFault}
+use Rattle.openrdson_core.specs.Bounds.{boundsOf}
+use Rattle.openrdson_core.specs.Rectangle.{onCorner, onCorners, fillsBounds}
 use borrow.Author.Needs.{needs}
 use Rattle.worked_rectangle.proofs.rectangles.Statement.{statement}
 use Rattle.worked_rectangle.proofs.rectangles.Tie as tie
@@ -15,7 +19,8 @@ rectangle-is-requires : tie.Need-rectangle-is-requires
 rectangle-is-requires c κs = search needs
 
 expect-requires : tie.Need-expect-requires
-expect-requires c κs = c .rectangle-is .ensures ∙ fact.bow-tie
+unfolding ringFault allBelow atMost ofBits foldBelow anyBelow boundsOf onCorner onCorners fillsBounds abs add sub mul div neg lt le eq round size
+expect-requires c κs = c .rectangle-is .ensures
 
 slice-aggregate-rectangle-is-3 : tie.Need-slice-aggregate-rectangle-is-3
 slice-aggregate-rectangle-is-3 c = search needs
@@ -27,7 +32,8 @@ rectangle-is-requires-2 : tie.Need-rectangle-is-requires-2
 rectangle-is-requires-2 c κs = search needs
 
 expect-requires-2 : tie.Need-expect-requires-2
-expect-requires-2 c κs = c .rectangle-is2 .ensures ∙ fact.triangle
+unfolding ringFault allBelow atMost ofBits foldBelow anyBelow boundsOf onCorner onCorners fillsBounds abs add sub mul div neg lt le eq round size
+expect-requires-2 c κs = c .rectangle-is2 .ensures
 
 slice-aggregate-rectangle-is-5 : tie.Need-slice-aggregate-rectangle-is-5
 slice-aggregate-rectangle-is-5 c = search needs
@@ -39,7 +45,8 @@ rectangle-is-requires-3 : tie.Need-rectangle-is-requires-3
 rectangle-is-requires-3 c κs = search needs
 
 expect-requires-3 : tie.Need-expect-requires-3
-expect-requires-3 c κs = c .rectangle-is3 .ensures ∙ fact.l-shape
+unfolding ringFault allBelow atMost ofBits foldBelow anyBelow boundsOf onCorner onCorners fillsBounds abs add sub mul div neg lt le eq round size
+expect-requires-3 c κs = c .rectangle-is3 .ensures
 
 slice-aggregate-rectangle-is-7 : tie.Need-slice-aggregate-rectangle-is-7
 slice-aggregate-rectangle-is-7 c = search needs
@@ -51,7 +58,8 @@ rectangle-is-requires-4 : tie.Need-rectangle-is-requires-4
 rectangle-is-requires-4 c κs = search needs
 
 expect-requires-4 : tie.Need-expect-requires-4
-expect-requires-4 c κs = c .rectangle-is4 .ensures ∙ fact.line
+unfolding ringFault allBelow atMost ofBits foldBelow anyBelow boundsOf onCorner onCorners fillsBounds abs add sub mul div neg lt le eq round size
+expect-requires-4 c κs = c .rectangle-is4 .ensures
 
 slice-aggregate-rectangle-refused : tie.Need-slice-aggregate-rectangle-refused
 slice-aggregate-rectangle-refused c = search needs
@@ -63,7 +71,8 @@ rectangle-refused-requires : tie.Need-rectangle-refused-requires
 rectangle-refused-requires c κs = search needs
 
 expect-requires-5 : tie.Need-expect-requires-5
-expect-requires-5 c κs = c .rectangle-refused .ensures ∙ fact.l-unequal _ _
+unfolding ringFault
+expect-requires-5 c κs = c .rectangle-refused .ensures
 
 slice-aggregate-rectangle-refused-3 : tie.Need-slice-aggregate-rectangle-refused-3
 slice-aggregate-rectangle-refused-3 c = search needs
@@ -75,7 +84,8 @@ rectangle-refused-requires-2 : tie.Need-rectangle-refused-requires-2
 rectangle-refused-requires-2 c κs = search needs
 
 expect-requires-6 : tie.Need-expect-requires-6
-expect-requires-6 c κs = c .rectangle-refused2 .ensures ∙ fact.line-not-a-number _ _
+unfolding ringFault allBelow atMost ofBits div
+expect-requires-6 c κs = c .rectangle-refused2 .ensures
 
 returns : tie.Need-returns
 returns c = search needs

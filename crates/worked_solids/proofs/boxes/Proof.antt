@@ -1,9 +1,11 @@
--- `boxes` meets its contract: each check is a worked fact. Assumes nothing.
-use mathlib.Core.Path.{ap, _∙_}
-use lib.Dec.{eqb}
-use lib.Ieee.{eq}
-use Rattle.worked.proofs.Numerals.{n0, n3}
-use Rattle.worked.proofs.Facts as fact
+-- `boxes` meets its contract: each check is true by the contracts, computed. Assumes nothing.
+use Rattle.lists.specs.Lists.{foldBelow, allBelow}
+use lib.Ieee.{add, sub, mul, div, neg, lt, le, eq, ofBits, round, size}
+use Rattle.binary64.specs.Numbers.{atMost, abs}
+use Rattle.openrdson_core.specs.Points.{ringFault}
+use Rattle.openrdson_core.specs.Area.{shoelace, signedArea}
+use Rattle.openrdson_core.specs.Bounds.{boundsOf}
+use Rattle.openrdson_core.specs.Solids.{footprint, volume}
 use borrow.Author.Needs.{needs}
 use Rattle.worked_solids.proofs.boxes.Statement.{statement}
 use Rattle.worked_solids.proofs.boxes.Tie as tie
@@ -18,7 +20,8 @@ volume-is-requires : tie.Need-volume-is-requires
 volume-is-requires c κs = search needs
 
 expect-requires : tie.Need-expect-requires
-expect-requires c κs = c .volume-is .ensures ∙ fact.block-volume
+unfolding ringFault allBelow atMost ofBits foldBelow boundsOf shoelace signedArea abs footprint volume add sub mul div neg lt le eq round size
+expect-requires c κs = c .volume-is .ensures
 
 slice-aggregate-volume-refused : tie.Need-slice-aggregate-volume-refused
 slice-aggregate-volume-refused c = search needs
@@ -42,31 +45,34 @@ footprint-is-requires : tie.Need-footprint-is-requires
 footprint-is-requires c κs = search needs
 
 expect-requires-3 : tie.Need-expect-requires-3
-expect-requires-3 c κs = c .footprint-is .ensures ∙ fact.block-footprint
+unfolding ringFault allBelow atMost ofBits foldBelow boundsOf shoelace signedArea abs footprint volume add sub mul div neg lt le eq round size
+expect-requires-3 c κs = c .footprint-is .ensures
 
 z-bottom-requires : tie.Need-z-bottom-requires
 z-bottom-requires c κs = search needs
 
 expect-requires-4 : tie.Need-expect-requires-4
-expect-requires-4 c κs = ap (λ x. eq x n0) (c .z-bottom .ensures) ∙ fact.block-bottom
+unfolding atMost ofBits add sub mul div neg lt le eq round size
+expect-requires-4 c κs = rw (c .z-bottom .ensures)
 
 z-top-requires : tie.Need-z-top-requires
 z-top-requires c κs = search needs
 
 expect-requires-5 : tie.Need-expect-requires-5
-expect-requires-5 c κs = ap (λ x. eq x n3) (c .z-top .ensures) ∙ fact.block-top
+unfolding atMost ofBits add sub mul div neg lt le eq round size
+expect-requires-5 c κs = rw (c .z-top .ensures)
 
 number-requires : tie.Need-number-requires
 number-requires c κs = search needs
 
 expect-requires-6 : tie.Need-expect-requires-6
-expect-requires-6 c κs = ap (λ n. eqb n 12) (c .number .ensures)
+expect-requires-6 c κs = rw (c .number .ensures)
 
 number-requires-2 : tie.Need-number-requires-2
 number-requires-2 c κs = search needs
 
 expect-requires-7 : tie.Need-expect-requires-7
-expect-requires-7 c κs = ap (λ n. eqb n 16) (c .number2 .ensures)
+expect-requires-7 c κs = rw (c .number2 .ensures)
 
 returns : tie.Need-returns
 returns c = search needs

@@ -1,8 +1,11 @@
--- `prisms` meets its contract: each check is a worked fact. Assumes nothing.
-use mathlib.Core.Path.{ap, _∙_}
-use lib.Ieee.{eq}
-use Rattle.worked.proofs.Numerals.{n0}
-use Rattle.worked.proofs.Facts as fact
+-- `prisms` meets its contract: each check is true by the contracts, computed. Assumes nothing.
+use Rattle.lists.specs.Lists.{foldBelow, allBelow}
+use lib.Ieee.{add, sub, mul, div, neg, lt, le, eq, ofBits, round, size}
+use Rattle.binary64.specs.Numbers.{atMost, abs}
+use Rattle.openrdson_core.specs.Points.{ringFault}
+use Rattle.openrdson_core.specs.Area.{shoelace, signedArea}
+use Rattle.openrdson_core.specs.Bounds.{boundsOf}
+use Rattle.openrdson_core.specs.Solids.{footprint, volume}
 use borrow.Author.Needs.{needs}
 use Rattle.worked_solids.proofs.prisms.Statement.{statement}
 use Rattle.worked_solids.proofs.prisms.Tie as tie
@@ -17,7 +20,8 @@ volume-is-requires : tie.Need-volume-is-requires
 volume-is-requires c κs = search needs
 
 expect-requires : tie.Need-expect-requires
-expect-requires c κs = c .volume-is .ensures ∙ fact.prism-volume
+unfolding ringFault allBelow atMost ofBits foldBelow boundsOf shoelace signedArea abs footprint volume add sub mul div neg lt le eq round size
+expect-requires c κs = c .volume-is .ensures
 
 slice-aggregate-footprint-is : tie.Need-slice-aggregate-footprint-is
 slice-aggregate-footprint-is c = search needs
@@ -29,7 +33,8 @@ footprint-is-requires : tie.Need-footprint-is-requires
 footprint-is-requires c κs = search needs
 
 expect-requires-2 : tie.Need-expect-requires-2
-expect-requires-2 c κs = c .footprint-is .ensures ∙ fact.prism-footprint
+unfolding ringFault allBelow atMost ofBits foldBelow boundsOf shoelace signedArea abs footprint volume add sub mul div neg lt le eq round size
+expect-requires-2 c κs = c .footprint-is .ensures
 
 slice-aggregate-region-volume-is : tie.Need-slice-aggregate-region-volume-is
 slice-aggregate-region-volume-is c = search needs
@@ -41,7 +46,8 @@ region-volume-is-requires : tie.Need-region-volume-is-requires
 region-volume-is-requires c κs = search needs
 
 expect-requires-3 : tie.Need-expect-requires-3
-expect-requires-3 c κs = c .region-volume-is .ensures ∙ fact.prism-volume
+unfolding ringFault allBelow atMost ofBits foldBelow boundsOf shoelace signedArea abs footprint volume add sub mul div neg lt le eq round size
+expect-requires-3 c κs = c .region-volume-is .ensures
 
 slice-aggregate-region-volume-refused : tie.Need-slice-aggregate-region-volume-refused
 slice-aggregate-region-volume-refused c = search needs
@@ -77,13 +83,15 @@ volume-refused-requires : tie.Need-volume-refused-requires
 volume-refused-requires c κs = search needs
 
 expect-requires-6 : tie.Need-expect-requires-6
-expect-requires-6 c κs = c .volume-refused .ensures ∙ fact.prism-endless _ _
+unfolding ringFault allBelow atMost ofBits div
+expect-requires-6 c κs = c .volume-refused .ensures
 
 z-bottom-requires : tie.Need-z-bottom-requires
 z-bottom-requires c κs = search needs
 
 expect-requires-7 : tie.Need-expect-requires-7
-expect-requires-7 c κs = ap (λ x. eq x n0) (c .z-bottom .ensures) ∙ fact.prism-bottom
+unfolding atMost ofBits add sub mul div neg lt le eq round size
+expect-requires-7 c κs = rw (c .z-bottom .ensures)
 
 returns : tie.Need-returns
 returns c = search needs

@@ -4,9 +4,6 @@ use Rattle.openrdson_core.specs.Answers.{boundedAnswer}
 use borrow.Author.Needs.{needs}
 use Rattle.worked.proofs.answers.box_refused.Statement.{statement}
 use Rattle.worked.proofs.answers.box_refused.Tie as tie
-use Rattle.worked.proofs.answers.box_refused.Reads as reads
-use Rattle.worked.proofs.answers.box_refused.Lts as lts
-use Rattle.openrdson_core.proofs.refusals.Refusal.number.Reads as number-reads
 
 enum-known-a : tie.Need-enum-known-a
 enum-known-a c = search needs

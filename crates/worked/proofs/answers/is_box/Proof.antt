@@ -4,9 +4,6 @@ use Rattle.openrdson_core.specs.Answers.{boundedAnswer}
 use borrow.Author.Needs.{needs}
 use Rattle.worked.proofs.answers.is_box.Statement.{statement}
 use Rattle.worked.proofs.answers.is_box.Tie as tie
-use Rattle.worked.proofs.answers.is_box.Reads as reads
-use Rattle.worked.proofs.answers.is_box.Lts as lts
-use Rattle.worked.proofs.answers.box_is.Reads as box-is-reads
 
 enum-told : tie.Need-enum-told
 enum-told c = search needs

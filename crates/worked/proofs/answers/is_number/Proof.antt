@@ -4,8 +4,6 @@ use Rattle.openrdson_core.specs.Answers.{measuredAnswer}
 use borrow.Author.Needs.{needs}
 use Rattle.worked.proofs.answers.is_number.Statement.{statement}
 use Rattle.worked.proofs.answers.is_number.Tie as tie
-use Rattle.worked.proofs.answers.is_number.Reads as reads
-use Rattle.worked.proofs.answers.is_number.Lts as lts
 
 enum-told : tie.Need-enum-told
 enum-told c = search needs

@@ -4,8 +4,6 @@ use Rattle.openrdson_core.specs.Answers.{judgedAnswer}
 use borrow.Author.Needs.{needs}
 use Rattle.worked.proofs.answers.is_verdict.Statement.{statement}
 use Rattle.worked.proofs.answers.is_verdict.Tie as tie
-use Rattle.worked.proofs.answers.is_verdict.Reads as reads
-use Rattle.worked.proofs.answers.is_verdict.Lts as lts
 
 enum-told : tie.Need-enum-told
 enum-told c = search needs

@@ -4,9 +4,6 @@ use Rattle.openrdson_core.specs.Answers.{measuredAnswer}
 use borrow.Author.Needs.{needs}
 use Rattle.worked.proofs.answers.number_refused.Statement.{statement}
 use Rattle.worked.proofs.answers.number_refused.Tie as tie
-use Rattle.worked.proofs.answers.number_refused.Reads as reads
-use Rattle.worked.proofs.answers.number_refused.Lts as lts
-use Rattle.openrdson_core.proofs.refusals.Refusal.number.Reads as number-reads
 
 enum-known-m : tie.Need-enum-known-m
 enum-known-m c = search needs

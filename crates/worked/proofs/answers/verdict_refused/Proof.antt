@@ -4,9 +4,6 @@ use Rattle.openrdson_core.specs.Answers.{judgedAnswer}
 use borrow.Author.Needs.{needs}
 use Rattle.worked.proofs.answers.verdict_refused.Statement.{statement}
 use Rattle.worked.proofs.answers.verdict_refused.Tie as tie
-use Rattle.worked.proofs.answers.verdict_refused.Reads as reads
-use Rattle.worked.proofs.answers.verdict_refused.Lts as lts
-use Rattle.openrdson_core.proofs.refusals.Refusal.number.Reads as number-reads
 
 enum-known-j : tie.Need-enum-known-j
 enum-known-j c = search needs

@@ -4,10 +4,6 @@ use Rattle.worked.specs.Asked.{isNumber}
 use borrow.Author.Needs.{needs}
 use Rattle.worked.proofs.rings.area_is.Statement.{statement}
 use Rattle.worked.proofs.rings.area_is.Tie as tie
-use Rattle.worked.proofs.rings.area_is.Reads as reads
-use Rattle.worked.proofs.rings.area_is.Lts as lts
-use Rattle.openrdson_core.proofs.polygon_area.Reads as polygon-area-reads
-use Rattle.worked.proofs.answers.is_number.Reads as is-number-reads
 
 polygon-area-requires : tie.Need-polygon-area-requires
 polygon-area-requires c κs = search needs

@@ -4,10 +4,6 @@ use Rattle.worked.specs.Asked.{isRefused}
 use borrow.Author.Needs.{needs}
 use Rattle.worked.proofs.rings.area_refused.Statement.{statement}
 use Rattle.worked.proofs.rings.area_refused.Tie as tie
-use Rattle.worked.proofs.rings.area_refused.Reads as reads
-use Rattle.worked.proofs.rings.area_refused.Lts as lts
-use Rattle.openrdson_core.proofs.polygon_area.Reads as polygon-area-reads
-use Rattle.worked.proofs.answers.number_refused.Reads as number-refused-reads
 
 polygon-area-requires : tie.Need-polygon-area-requires
 polygon-area-requires c κs = search needs

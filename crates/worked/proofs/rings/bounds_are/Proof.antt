@@ -5,10 +5,6 @@ use Rattle.worked.specs.Asked.{isBox}
 use borrow.Author.Needs.{needs}
 use Rattle.worked.proofs.rings.bounds_are.Statement.{statement}
 use Rattle.worked.proofs.rings.bounds_are.Tie as tie
-use Rattle.worked.proofs.rings.bounds_are.Reads as reads
-use Rattle.worked.proofs.rings.bounds_are.Lts as lts
-use Rattle.worked.proofs.answers.is_box.Reads as is-box-reads
-use Rattle.openrdson_core.proofs.bounds.Bbox.from_points.Reads as from-points-reads
 
 from-points-requires : tie.Need-from-points-requires
 from-points-requires c κs = search needs

@@ -4,10 +4,6 @@ use Rattle.worked.specs.Asked.{isRefused}
 use borrow.Author.Needs.{needs}
 use Rattle.worked.proofs.rings.bounds_refused.Statement.{statement}
 use Rattle.worked.proofs.rings.bounds_refused.Tie as tie
-use Rattle.worked.proofs.rings.bounds_refused.Reads as reads
-use Rattle.worked.proofs.rings.bounds_refused.Lts as lts
-use Rattle.worked.proofs.answers.box_refused.Reads as box-refused-reads
-use Rattle.openrdson_core.proofs.bounds.Bbox.from_points.Reads as from-points-reads
 
 from-points-requires : tie.Need-from-points-requires
 from-points-requires c κs = search needs

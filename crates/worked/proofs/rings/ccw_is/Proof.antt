@@ -4,10 +4,6 @@ use Rattle.worked.specs.Asked.{isVerdict}
 use borrow.Author.Needs.{needs}
 use Rattle.worked.proofs.rings.ccw_is.Statement.{statement}
 use Rattle.worked.proofs.rings.ccw_is.Tie as tie
-use Rattle.worked.proofs.rings.ccw_is.Reads as reads
-use Rattle.worked.proofs.rings.ccw_is.Lts as lts
-use Rattle.openrdson_core.proofs.is_ccw.Reads as is-ccw-reads
-use Rattle.worked.proofs.answers.is_verdict.Reads as is-verdict-reads
 
 is-ccw-requires : tie.Need-is-ccw-requires
 is-ccw-requires c κs = search needs

@@ -4,10 +4,6 @@ use Rattle.worked.specs.Asked.{isRefused}
 use borrow.Author.Needs.{needs}
 use Rattle.worked.proofs.rings.ccw_refused.Statement.{statement}
 use Rattle.worked.proofs.rings.ccw_refused.Tie as tie
-use Rattle.worked.proofs.rings.ccw_refused.Reads as reads
-use Rattle.worked.proofs.rings.ccw_refused.Lts as lts
-use Rattle.openrdson_core.proofs.is_ccw.Reads as is-ccw-reads
-use Rattle.worked.proofs.answers.verdict_refused.Reads as verdict-refused-reads
 
 is-ccw-requires : tie.Need-is-ccw-requires
 is-ccw-requires c κs = search needs

@@ -4,10 +4,6 @@ use Rattle.worked.specs.Asked.{isVerdict}
 use borrow.Author.Needs.{needs}
 use Rattle.worked.proofs.rings.rectangle_is.Statement.{statement}
 use Rattle.worked.proofs.rings.rectangle_is.Tie as tie
-use Rattle.worked.proofs.rings.rectangle_is.Reads as reads
-use Rattle.worked.proofs.rings.rectangle_is.Lts as lts
-use Rattle.worked.proofs.answers.is_verdict.Reads as is-verdict-reads
-use Rattle.openrdson_core.proofs.is_axis_aligned_rectangle.Reads as is-axis-aligned-rectangle-reads
 
 is-axis-aligned-rectangle-requires : tie.Need-is-axis-aligned-rectangle-requires
 is-axis-aligned-rectangle-requires c κs = search needs

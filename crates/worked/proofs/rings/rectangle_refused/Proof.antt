@@ -4,10 +4,6 @@ use Rattle.worked.specs.Asked.{isRefused}
 use borrow.Author.Needs.{needs}
 use Rattle.worked.proofs.rings.rectangle_refused.Statement.{statement}
 use Rattle.worked.proofs.rings.rectangle_refused.Tie as tie
-use Rattle.worked.proofs.rings.rectangle_refused.Reads as reads
-use Rattle.worked.proofs.rings.rectangle_refused.Lts as lts
-use Rattle.worked.proofs.answers.verdict_refused.Reads as verdict-refused-reads
-use Rattle.openrdson_core.proofs.is_axis_aligned_rectangle.Reads as is-axis-aligned-rectangle-reads
 
 is-axis-aligned-rectangle-requires : tie.Need-is-axis-aligned-rectangle-requires
 is-axis-aligned-rectangle-requires c κs = search needs

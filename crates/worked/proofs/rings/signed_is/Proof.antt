@@ -4,10 +4,6 @@ use Rattle.worked.specs.Asked.{isNumber}
 use borrow.Author.Needs.{needs}
 use Rattle.worked.proofs.rings.signed_is.Statement.{statement}
 use Rattle.worked.proofs.rings.signed_is.Tie as tie
-use Rattle.worked.proofs.rings.signed_is.Reads as reads
-use Rattle.worked.proofs.rings.signed_is.Lts as lts
-use Rattle.openrdson_core.proofs.polygon_signed_area.Reads as polygon-signed-area-reads
-use Rattle.worked.proofs.answers.is_number.Reads as is-number-reads
 
 polygon-signed-area-requires : tie.Need-polygon-signed-area-requires
 polygon-signed-area-requires c κs = search needs

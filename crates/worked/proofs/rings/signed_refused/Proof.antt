@@ -4,10 +4,6 @@ use Rattle.worked.specs.Asked.{isRefused}
 use borrow.Author.Needs.{needs}
 use Rattle.worked.proofs.rings.signed_refused.Statement.{statement}
 use Rattle.worked.proofs.rings.signed_refused.Tie as tie
-use Rattle.worked.proofs.rings.signed_refused.Reads as reads
-use Rattle.worked.proofs.rings.signed_refused.Lts as lts
-use Rattle.openrdson_core.proofs.polygon_signed_area.Reads as polygon-signed-area-reads
-use Rattle.worked.proofs.answers.number_refused.Reads as number-refused-reads
 
 polygon-signed-area-requires : tie.Need-polygon-signed-area-requires
 polygon-signed-area-requires c κs = search needs

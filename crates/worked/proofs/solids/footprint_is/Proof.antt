@@ -5,10 +5,6 @@ use Rattle.worked.specs.Asked.{isBox}
 use borrow.Author.Needs.{needs}
 use Rattle.worked.proofs.solids.footprint_is.Statement.{statement}
 use Rattle.worked.proofs.solids.footprint_is.Tie as tie
-use Rattle.worked.proofs.solids.footprint_is.Reads as reads
-use Rattle.worked.proofs.solids.footprint_is.Lts as lts
-use Rattle.worked.proofs.answers.is_box.Reads as is-box-reads
-use Rattle.openrdson_core.proofs.solids.Solid.footprint_bbox.Reads as footprint-bbox-reads
 
 footprint-bbox-requires : tie.Need-footprint-bbox-requires
 footprint-bbox-requires c κs = search needs

@@ -4,10 +4,6 @@ use Rattle.worked.specs.Asked.{isRefused}
 use borrow.Author.Needs.{needs}
 use Rattle.worked.proofs.solids.footprint_refused.Statement.{statement}
 use Rattle.worked.proofs.solids.footprint_refused.Tie as tie
-use Rattle.worked.proofs.solids.footprint_refused.Reads as reads
-use Rattle.worked.proofs.solids.footprint_refused.Lts as lts
-use Rattle.worked.proofs.answers.box_refused.Reads as box-refused-reads
-use Rattle.openrdson_core.proofs.solids.Solid.footprint_bbox.Reads as footprint-bbox-reads
 
 footprint-bbox-requires : tie.Need-footprint-bbox-requires
 footprint-bbox-requires c κs = search needs

@@ -4,10 +4,6 @@ use Rattle.worked.specs.Asked.{isRefused}
 use borrow.Author.Needs.{needs}
 use Rattle.worked.proofs.solids.region_volume_refused.Statement.{statement}
 use Rattle.worked.proofs.solids.region_volume_refused.Tie as tie
-use Rattle.worked.proofs.solids.region_volume_refused.Reads as reads
-use Rattle.worked.proofs.solids.region_volume_refused.Lts as lts
-use Rattle.worked.proofs.answers.number_refused.Reads as number-refused-reads
-use Rattle.openrdson_core.proofs.solids.SolidRegion.volume.Reads as volume-reads
 
 volume-requires : tie.Need-volume-requires
 volume-requires c κs = search needs

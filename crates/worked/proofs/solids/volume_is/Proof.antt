@@ -4,10 +4,6 @@ use Rattle.worked.specs.Asked.{isNumber}
 use borrow.Author.Needs.{needs}
 use Rattle.worked.proofs.solids.volume_is.Statement.{statement}
 use Rattle.worked.proofs.solids.volume_is.Tie as tie
-use Rattle.worked.proofs.solids.volume_is.Reads as reads
-use Rattle.worked.proofs.solids.volume_is.Lts as lts
-use Rattle.worked.proofs.answers.is_number.Reads as is-number-reads
-use Rattle.openrdson_core.proofs.solids.Solid.volume.Reads as volume-reads
 
 volume-requires : tie.Need-volume-requires
 volume-requires c κs = search needs
