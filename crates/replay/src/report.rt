@@ -1,0 +1,62 @@
+// The report: a line for each call, and one for all.
+ghost use Prim.Native.Nat.{_<_};
+ghost use lib.ListN.{length};
+
+fn total(list: &[u64]) -> u64 {
+    let mut sum = 0u64;
+    let mut i = 0;
+    while i < list.len() {
+        sum = std::num::wrapping_add_u64(sum, list[i]);
+        i += 1;
+    }
+    sum
+}
+
+fn print_counts(cases: u64, mismatches: u64) {
+    io::print_decimal(1, cases);
+    io::write_all(1, b" cases ");
+    io::print_decimal(1, mismatches);
+    io::write_all(1, b" mismatches\n");
+}
+
+// The line of a call, whose counts stand at place i.
+fn print_call(name: &[u8], cases: &[u64], mismatches: &[u64], i: usize)
+    requires { ⌜ (i < length (now cases)) × (i < length (now mismatches)) ⌝ }
+{
+    io::write_all(1, name);
+    io::write_all(1, b" ");
+    print_counts(cases[i], mismatches[i]);
+}
+
+fn print_ring_calls(cases: &[u64; 14], mismatches: &[u64; 14]) {
+    print_call(b"polygon_signed_area", cases, mismatches, 1);
+    print_call(b"polygon_area", cases, mismatches, 2);
+    print_call(b"is_ccw", cases, mismatches, 3);
+    print_call(b"is_axis_aligned_rectangle", cases, mismatches, 4);
+    print_call(b"bbox_from_points", cases, mismatches, 5);
+}
+
+fn print_solid_calls(cases: &[u64; 14], mismatches: &[u64; 14]) {
+    print_call(b"box_volume", cases, mismatches, 6);
+    print_call(b"prism_volume", cases, mismatches, 7);
+    print_call(b"box_footprint_bbox", cases, mismatches, 8);
+    print_call(b"prism_footprint_bbox", cases, mismatches, 9);
+}
+
+fn print_number_calls(cases: &[u64; 14], mismatches: &[u64; 14]) {
+    print_call(b"sqrt", cases, mismatches, 10);
+    print_call(b"abs", cases, mismatches, 11);
+    print_call(b"ceil_capped", cases, mismatches, 12);
+    print_call(b"nearest_capped", cases, mismatches, 13);
+}
+
+// Place 0 is for a damaged record.
+pub fn print_report(cases: &[u64; 14], mismatches: &[u64; 14]) {
+    print_ring_calls(cases, mismatches);
+    print_solid_calls(cases, mismatches);
+    print_number_calls(cases, mismatches);
+    if cases[0] > 0 {
+        print_call(b"damaged", cases, mismatches, 0);
+    }
+    print_counts(total(cases), total(mismatches));
+}

@@ -1,0 +1,31 @@
+-- What the checks ask of an answer: is it this number, this verdict, these bounds, this refusal?
+use Prim.Native.Nat.{ℕ}
+use mathlib.Core.Bool.{Bool, true, false, _&&_, Bool·beq}
+use lib.Dec.{eqb}
+use lib.Ieee.{Float, eq}
+use Rattle.lists.specs.Answer.{Answer, refused, given}
+use Rattle.openrdson_core.specs.declared.points.Point.{Point}
+use Rattle.openrdson_core.specs.declared.bounds.Bbox.{Bbox}
+
+-- equal coordinates, equal bounds
+abbrev pub samePoint : Point → Point → Bool
+samePoint p q = eq (p .x) (q .x) && eq (p .y) (q .y)
+
+abbrev pub sameBox : Bbox → Bbox → Bool
+sameBox a b = eq (a .«min_x») (b .«min_x») && eq (a .«min_y») (b .«min_y») && eq (a .«max_x») (b .«max_x») && eq (a .«max_y») (b .«max_y»)
+
+abbrev pub isNumber : Answer Float → Float → Bool
+isNumber (refused n) x = false
+isNumber (given y) x = eq y x
+
+abbrev pub isVerdict : Answer Bool → Bool → Bool
+isVerdict (refused n) v = false
+isVerdict (given b) v = Bool·beq b v
+
+abbrev pub isBox : Answer Bbox → Bbox → Bool
+isBox (refused n) b = false
+isBox (given a) b = sameBox a b
+
+abbrev pub isRefused : {A : Type 0} → Answer A → ℕ → Bool
+isRefused (refused m) n = eqb m n
+isRefused (given a) n = false

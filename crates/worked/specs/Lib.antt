@@ -1,0 +1,2 @@
+-- What the checks ask of an answer.
+pub mod Asked
