@@ -29,3 +29,13 @@ module _ (test : ℕ → Bool) (n : ℕ) where
   pub search-end : (i : ℕ) → Searched test n i → n ≤ i → first test n 0 ≡ none
   unfolding first
   search-end i s l = s .same ∙ (let e : n - i ≡ 0 = omega arith in rw e)
+
+-- the place found is one of those searched
+pub first-below : (test : ℕ → Bool) (n i k : ℕ) → first test n i ≡ some k → k < i + n
+unfolding first
+first-below test zero i k e = let z : _≡_ {A = ℕ} 0 1 = cc in absurd (omega arith)
+first-below test (suc n) i k e = at (test i) e (first-below test n (i + 1) k)
+  where
+    at : (b : Bool) → cond b (some i) (first test n (i + 1)) ≡ some k → (first test n (i + 1) ≡ some k → k < i + 1 + n) → k < i + suc n
+    at true e later = let z : i ≡ k = cc in omega arith
+    at false e later = omega (arith, later e)

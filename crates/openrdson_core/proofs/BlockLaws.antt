@@ -1,10 +1,21 @@
--- Cells of a block as a program lends them. Assumes nothing.
+-- Cells of a block as a program lends them, and what a sound block tells. Assumes nothing.
 use mathlib.Core.Path.{_≡_, refl, sym, ap, _∙_}
+use mathlib.Core.Bool.{Bool, true, false, not, _&&_, _||_}
 use mathlib.Core.List.{List}
-use Prim.Native.Nat.{ℕ, _+_, _*_, _-_, _≤_}
+use mathlib.Core.Option.{Option, some, none}
+use Prim.Native.Nat.{ℕ, _+_, _*_, _-_, _≤_, _<_}
+use native.Mathlib.Omega.{arith}
+use lib.Dec.{eqb, leb}
 use lib.ListN.{length, take, drop}
-use Rattle.lists.specs.Lists.{part}
+use lib.Seq.{take-take}
+use borrow.Author.Tests.{eqb-true, leb-true}
+use Rattle.lists.specs.Lists.{part, allBelow}
 use Rattle.lists.proofs.Parts.{part-lent, part-length}
+use Rattle.lists.proofs.Searches.{first-below}
+use Rattle.openrdson_core.specs.Bytes.{same, unpad, nameLength}
+use Rattle.openrdson_core.specs.Blocks.{widthOf, cellOk, count, keyAt, valueAt, distinct, blockOk, rowOf}
+use Rattle.openrdson_core.specs.declared.blocks.Cell.{Cell}
+use Rattle.openrdson_core.specs.declared.blocks.Cell.the-variants.{Name}
 
 -- cell i of those of w bytes from place `from` on, lent as s[at..at + v]
 pub cell-lent : (s : List ℕ) (from i w : ℕ) {at v : ℕ} → at ≡ from + i * w → v ≡ w → take (at + v - at) (drop at s) ≡ part (from + i * w) w s
@@ -12,3 +23,35 @@ cell-lent s from i w {at} {v} e f = part-lent s at v ∙ ap (λ (k : ℕ). part 
 
 pub lent-length : (s : List ℕ) (at v : ℕ) → at + v ≤ length s → length (take (at + v - at) (drop at s)) ≡ v
 lent-length s at v h = ap length (part-lent s at v) ∙ part-length s at v h
+
+first-of : (p q : Bool) → (p && q) ≡ true → p ≡ true
+first-of true q e = refl
+first-of false q e = e
+
+second-of : (p q : Bool) → (p && q) ≡ true → q ≡ true
+second-of true q e = e
+second-of false q e = cc
+
+-- a sound block counts at most 256 rows, and has exactly their length
+pub record Counted (k v : Cell) (s : List ℕ) : Type 0 where
+  pub few : count s ≤ 256
+  pub long : length s ≡ 2 + count s * (widthOf k + widthOf v)
+
+pub counted : (k v : Cell) (once : Bool) (s : List ℕ) → blockOk k v once s ≡ true → Counted k v s
+unfolding blockOk
+counted k v once s e =
+    let a = leb (count s) 256 in
+    let b = eqb (length s) (2 + count s * (widthOf k + widthOf v)) in
+    let c = allBelow (count s) (λ i. cellOk k (keyAt k s i)) in
+    let d = allBelow (count s) (λ i. cellOk v (valueAt k v s i)) in
+    let ab = first-of (a && b) c (first-of (a && b && c) d (first-of (a && b && c && d) (not once || distinct (count s) (keyAt k s)) e)) in
+    record { few = leb-true (count s) 256 (first-of a b ab); long = eqb-true (length s) (2 + count s * (widthOf k + widthOf v)) (second-of a b ab) }
+
+-- the row found is a row
+pub row-below : (s name : List ℕ) (i : ℕ) → some i ≡ rowOf s name → i < count s
+unfolding rowOf
+row-below s name i e = let h : i < 0 + count s = first-below (λ k. same (unpad (keyAt Name s k)) name) (count s) 0 i (sym e) in omega arith
+
+-- a name in a cell is the start of the cell
+pub unpad-part : (s : List ℕ) (start : ℕ) → nameLength (part start 32 s) ≤ 32 → unpad (part start 32 s) ≡ part start (nameLength (part start 32 s)) s
+unpad-part s start h = take-take (nameLength (part start 32 s)) 32 (drop start s) h

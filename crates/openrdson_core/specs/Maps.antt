@@ -1,12 +1,22 @@
 -- The name lookup: the conducting map is asked first, then the via map.
-use Prim.Native.Nat.{ℕ}
+use Prim.Native.Nat.{ℕ, _+_, _-_, _≤_}
+use mathlib.Core.Path.{_≡_}
 use mathlib.Core.Bool.{Bool, true, false}
 use mathlib.Core.List.{List, []}
 use mathlib.Core.Option.{Option, some, none}
+use lib.ListN.{length}
 use Rattle.lists.specs.Answer.{Answer, refused, given, unless}
+use Rattle.lists.specs.Lists.{part}
+use Rattle.openrdson_core.specs.Refusals.{refusalNumber}
 use Rattle.openrdson_core.specs.Bytes.{unpad}
 use Rattle.openrdson_core.specs.Blocks.{mapOk, mapOption, entryOf}
 use Rattle.openrdson_core.specs.declared.blocks.Cell.the-variants.{Name}
+use Rattle.openrdson_core.specs.declared.maps.Span.{Span}
+use Rattle.openrdson_core.specs.declared.maps.Span.the-variants as span
+use Rattle.openrdson_core.specs.declared.maps.NamePlace.{NamePlace}
+use Rattle.openrdson_core.specs.declared.maps.NamePlace.the-variants as place
+use Rattle.openrdson_core.specs.declared.maps.Lookup.{Lookup}
+use Rattle.openrdson_core.specs.declared.maps.Lookup.the-variants as found
 
 -- the physical name that one map has for a logical one, without its padding
 abbrev pub inMap : List ℕ → List ℕ → Option (List ℕ)
@@ -32,3 +42,32 @@ abbrev pub partOf : Answer (Option (List ℕ)) → List ℕ
 partOf (given (some p)) = p
 partOf (given none) = []
 partOf (refused n) = []
+
+-- ---- what the enums say
+
+-- the bytes from a start on, and that they lie in the block
+abbrev pub spanned : List ℕ → Span → Option (List ℕ)
+spanned s (span.Part start count) = some (part start count s)
+spanned s span.Empty = none
+
+abbrev pub spanWithin : List ℕ → Span → Type 0
+spanWithin s (span.Part start count) = start + count ≤ length s
+spanWithin s span.Empty = Unit
+
+-- the part of the one map or the other
+abbrev pub placed : List ℕ → List ℕ → NamePlace → Answer (Option (List ℕ))
+placed conducting via (place.Conducting start count) = given (some (part start count conducting))
+placed conducting via (place.Via start count) = given (some (part start count via))
+placed conducting via place.Nothing = given none
+placed conducting via (place.Refused why) = refused (refusalNumber why)
+
+abbrev pub placeWithin : List ℕ → List ℕ → NamePlace → Type 0
+placeWithin conducting via (place.Conducting start count) = start + count ≤ length conducting
+placeWithin conducting via (place.Via start count) = start + count ≤ length via
+placeWithin conducting via place.Nothing = Unit
+placeWithin conducting via (place.Refused why) = Unit
+
+abbrev pub lookupAnswer : Lookup → Answer Bool
+lookupAnswer found.Found = given true
+lookupAnswer found.Nothing = given false
+lookupAnswer (found.Refused why) = refused (refusalNumber why)

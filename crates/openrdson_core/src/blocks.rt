@@ -170,8 +170,8 @@ pub fn is_block(s: &[u8], key: Cell, value: Cell, once: bool) -> bool
     are_distinct(s, k, n)
 }
 
-// How many rows a block counts.
-fn rows(s: &[u8]) -> usize
+// How many rows a block counts. For a block of two bytes at least.
+pub fn rows(s: &[u8]) -> usize
     requires { ⌜ 2 ≤ length (now s) ⌝ }
     ensures { λ r. ⌜ r ≡ spec.count (now (s .entry)) ⌝ }
 {

@@ -1,8 +1,9 @@
-// Points, bounding boxes, areas, the rectangle test and solids: the original's geometry.rs.
+// Points, bounding boxes, areas, the rectangle test and solids (the original's geometry.rs); name blocks and the lookups in them (tech.rs, layout.rs).
 mod area;
 mod blocks;
 mod bounds;
 mod bytes;
+mod maps;
 mod points;
 mod rectangle;
 mod refusals;
@@ -13,10 +14,16 @@ pub use area::polygon_area;
 pub use area::polygon_signed_area;
 pub use bounds::Bbox;
 pub use bounds::Bounded;
+pub use maps::Lookup;
+pub use maps::NamePlace;
+pub use maps::look_up;
+pub use maps::name_place;
+pub use maps::physical_name;
 pub use points::Check;
 pub use points::Judged;
 pub use points::Measured;
 pub use points::Point;
+pub use points::ring_check;
 pub use points::ring_size;
 pub use rectangle::is_axis_aligned_rectangle;
 pub use refusals::Refusal;
