@@ -1,9 +1,11 @@
 // What Rust's std gave the original on binary64 numbers: range tests, abs, rounding with capping casts, the square root.
+mod pattern;
 mod range;
 mod root;
 mod rounding;
 mod size;
 
+pub use pattern::from_bits;
 pub use range::coordinate_in_range;
 pub use range::extent_in_range;
 pub use range::figure_in_range;

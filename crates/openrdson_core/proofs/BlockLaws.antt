@@ -13,7 +13,7 @@ use Rattle.lists.specs.Lists.{part, allBelow}
 use Rattle.lists.proofs.Parts.{part-lent, part-length}
 use Rattle.lists.proofs.Searches.{first-below}
 use Rattle.openrdson_core.specs.Bytes.{same, unpad, nameLength}
-use Rattle.openrdson_core.specs.Blocks.{widthOf, cellOk, count, keyAt, valueAt, distinct, blockOk, rowOf}
+use Rattle.openrdson_core.specs.Blocks.{widthOf, cellOk, count, keyAt, valueAt, distinct, blockOk, rowOf, mapOption, entryOf}
 use Rattle.openrdson_core.specs.declared.blocks.Cell.{Cell}
 use Rattle.openrdson_core.specs.declared.blocks.Cell.the-variants.{Name}
 
@@ -55,3 +55,10 @@ row-below s name i e = let h : i < 0 + count s = first-below (λ k. same (unpad 
 -- a name in a cell is the start of the cell
 pub unpad-part : (s : List ℕ) (start : ℕ) → nameLength (part start 32 s) ≤ 32 → unpad (part start 32 s) ≡ part start (nameLength (part start 32 s)) s
 unpad-part s start h = take-take (nameLength (part start 32 s)) 32 (drop start s) h
+
+-- the value of the row found, and of none
+pub entry-some : (v : Cell) (s name : List ℕ) (i start : ℕ) → some i ≡ rowOf s name → start ≡ 2 + count s * 32 + i * widthOf v → some (part start (widthOf v) s) ≡ entryOf v s name
+entry-some v s name i start e at = ap (λ (k : ℕ). some (part k (widthOf v) s)) at ∙ ap (mapOption (valueAt Name v s)) e
+
+pub entry-none : (v : Cell) (s name : List ℕ) → none ≡ rowOf s name → none ≡ entryOf v s name
+entry-none v s name e = ap (mapOption (valueAt Name v s)) e

@@ -16,6 +16,8 @@ use Rattle.openrdson_core.specs.declared.bounds.Bounded.{Bounded}
 use Rattle.openrdson_core.specs.declared.bounds.Bounded.the-variants as bounded
 use Rattle.openrdson_core.specs.declared.blocks.Row.{Row}
 use Rattle.openrdson_core.specs.declared.blocks.Row.the-variants as row
+use Rattle.openrdson_core.specs.declared.tech.Numbered.{Numbered}
+use Rattle.openrdson_core.specs.declared.tech.Numbered.the-variants as numbered
 
 abbrev pub checkAnswer : Check → Answer (Unit {0})
 checkAnswer check.Fine = given tt
@@ -36,3 +38,7 @@ boundedAnswer (bounded.Refused why) = refused (refusalNumber why)
 abbrev pub rowAnswer : Row → Option ℕ
 rowAnswer (row.At i) = some i
 rowAnswer row.Nowhere = none
+
+abbrev pub numberedAnswer : Numbered → Answer ℕ
+numberedAnswer (numbered.Value m) = given (m .0)
+numberedAnswer (numbered.Refused why) = refused (refusalNumber why)

@@ -9,3 +9,5 @@ pub mod Solids
 pub mod Bytes
 pub mod Blocks
 pub mod Maps
+pub mod Tech
+pub mod Layout

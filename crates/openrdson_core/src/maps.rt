@@ -35,7 +35,7 @@ pub enum Lookup {
     Refused(Refusal),
 }
 
-fn is_map(s: &[u8]) -> bool
+pub fn is_map(s: &[u8]) -> bool
     ensures { λ r. ⌜ r ≡ mapOk (now (s .entry)) ⌝ }
 {
     is_block(s, Cell::Name, Cell::Name, true)
