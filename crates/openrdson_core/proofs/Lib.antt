@@ -6,3 +6,4 @@ pub mod Areas
 pub mod Corners
 pub mod SolidAnswers
 pub mod Shapes
+pub mod MeshLaws

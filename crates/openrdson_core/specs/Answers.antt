@@ -16,6 +16,9 @@ use Rattle.openrdson_core.specs.declared.bounds.Bounded.{Bounded}
 use Rattle.openrdson_core.specs.declared.bounds.Bounded.the-variants as bounded
 use Rattle.openrdson_core.specs.declared.blocks.Row.{Row}
 use Rattle.openrdson_core.specs.declared.blocks.Row.the-variants as row
+use Rattle.openrdson_core.specs.declared.mesh.ElementType.{ElementType}
+use Rattle.openrdson_core.specs.declared.mesh.Kind.{Kind}
+use Rattle.openrdson_core.specs.declared.mesh.Kind.the-variants as kind
 
 abbrev pub checkAnswer : Check → Answer (Unit {0})
 checkAnswer check.Fine = given tt
@@ -36,3 +39,7 @@ boundedAnswer (bounded.Refused why) = refused (refusalNumber why)
 abbrev pub rowAnswer : Row → Option ℕ
 rowAnswer (row.At i) = some i
 rowAnswer row.Nowhere = none
+
+abbrev pub kindAnswer : Kind → Option ElementType
+kindAnswer (kind.Is t) = some t
+kindAnswer kind.Unknown = none

@@ -9,3 +9,4 @@ pub mod Solids
 pub mod Bytes
 pub mod Blocks
 pub mod Maps
+pub mod Mesh

@@ -1,8 +1,9 @@
-// Points, bounding boxes, areas, the rectangle test and solids: the original's geometry.rs.
+// Points, bounding boxes, areas, the rectangle test and solids: the original's geometry.rs. Kinds of elements, nodes and counts of a mesh: its mesh.rs.
 mod area;
 mod blocks;
 mod bounds;
 mod bytes;
+mod mesh;
 mod points;
 mod rectangle;
 mod refusals;
@@ -13,6 +14,17 @@ pub use area::polygon_area;
 pub use area::polygon_signed_area;
 pub use bounds::Bbox;
 pub use bounds::Bounded;
+pub use mesh::Counts;
+pub use mesh::ElementType;
+pub use mesh::Kind;
+pub use mesh::NodeNumber;
+pub use mesh::Point3;
+pub use mesh::UNUSED;
+pub use mesh::counts_within;
+pub use mesh::element_ok;
+pub use mesh::element_type;
+pub use mesh::has_room;
+pub use mesh::lists_parallel;
 pub use points::Check;
 pub use points::Judged;
 pub use points::Measured;
