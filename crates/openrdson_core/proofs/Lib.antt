@@ -7,3 +7,4 @@ pub mod Corners
 pub mod SolidAnswers
 pub mod Shapes
 pub mod MeshLaws
+pub mod MeshShapes

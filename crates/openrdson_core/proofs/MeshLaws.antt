@@ -10,7 +10,7 @@ use lib.ListN.{length, getD}
 use borrow.Author.Tests.{eq-eqb, ne-eqb, eqb-true, lt-ltb, le-ltb, ltb-true, leb-true}
 use Rattle.lists.specs.Lists.{allBelow, part}
 use Rattle.lists.proofs.Scans.{all-from, all-more, all-fails, all-at}
-use Rattle.openrdson_core.specs.Mesh.{Mesh, unused, nodeCount, kindOf, known, usedPlaces, parallelLengths, parallel, withinLengths, within, fits, restUnused, firstBelow, placesOf, usedOf, kindOk, unusedOk, usedBelow, elementOk, wellFormed}
+use Rattle.openrdson_core.specs.Mesh.{Mesh, unused, nodeCount, kindOf, known, usedPlaces, parallelLengths, parallel, withinLengths, within, fits, restUnused, firstBelow, validElement, placesOf, usedOf, kindOk, unusedOk, usedBelow, elementOk, wellFormed}
 use Rattle.openrdson_core.specs.declared.mesh.ElementType.{ElementType}
 use Rattle.openrdson_core.specs.declared.mesh.ElementType.the-variants.{Tet, Hex, Prism, Pyramid}
 use Rattle.openrdson_core.specs.declared.mesh.Counts.{Counts}
@@ -82,6 +82,9 @@ used-most Hex = omega arith
 used-most Prism = omega arith
 used-most Pyramid = omega arith
 
+pub count-most : (k : ℕ) {t : ElementType} {n : ℕ} → kindOf k ≡ some t → n ≡ nodeCount t → n ≤ 8
+count-most k {t} e is = omega (arith, is, used-most t)
+
 module _ (n : ℕ) (places : List ℕ) where
   -- place i is one of the first n, or unused
   abbrev pub emptyAt : ℕ → Bool
@@ -106,6 +109,20 @@ module _ (nodes : ℕ) (places : List ℕ) where
   pub place-below : (n : ℕ) → firstBelow n nodes places ≡ true → (i : ℕ) → i < n → getD places i 0 < nodes
   unfolding firstBelow
   place-below n e i l = ltb-true _ _ (all-at belowAt n e i l)
+
+module _ (nodes k : ℕ) (places : List ℕ) where
+  -- an element of no kind is not valid
+  pub valid-none : kindOf k ≡ none → validElement nodes k places ≡ false
+  valid-none e = rw e
+
+  -- nor is one with a filled place past its n; the places that it uses decide on any other
+  pub valid-filled : {t : ElementType} {n : ℕ} → kindOf k ≡ some t → n ≡ nodeCount t → restUnused n places ≡ false → validElement nodes k places ≡ false
+  valid-filled {t} {n} e is filled = let f : restUnused (nodeCount t) places ≡ false = sym (ap (λ (i : ℕ). restUnused i places) is) ∙ filled in rw (e, f)
+
+  pub valid-rest : {t : ElementType} {n : ℕ} → kindOf k ≡ some t → n ≡ nodeCount t → restUnused n places ≡ true → validElement nodes k places ≡ firstBelow n nodes places
+  valid-rest {t} {n} e is free =
+      let f : restUnused (nodeCount t) places ≡ true = sym (ap (λ (i : ℕ). restUnused i places) is) ∙ free in
+      rw (e, f) (ap (λ (i : ℕ). firstBelow i nodes places) (sym is))
 
 -- ---- an element of a mesh
 
