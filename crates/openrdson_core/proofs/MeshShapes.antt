@@ -56,7 +56,7 @@ unfolding wellFormed parallelLengths withinLengths allBelow kindOf restUnused fi
 no-such-kind = refl
 
 -- one y too few; a ninth place
-pub unequal-lists : counted (theMesh (origin ∷ []) [] (origin ∷ []) [] [] []) ≡ false
+pub unequal-lists : wellFormed (theCounts 0 0) (theMesh (origin ∷ []) [] (origin ∷ []) [] [] []) ≡ false
 unfolding wellFormed parallelLengths withinLengths allBelow
 unequal-lists = refl
 
