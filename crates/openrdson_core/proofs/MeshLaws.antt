@@ -2,15 +2,16 @@
 use mathlib.Core.Path.{_≡_, refl, sym, ap, _∙_}
 use mathlib.Core.Bool.{Bool, true, false, _&&_, _||_}
 use mathlib.Core.List.{List}
-use mathlib.Core.Option.{Option, some, none}
+use mathlib.Core.Option.{some, none}
 use Prim.Native.Nat.{ℕ, _+_, _*_, _/_, _%_, _<_, _≤_}
 use native.Mathlib.Omega.{arith}
 use lib.Dec.{eqb, leb, ltb}
-use lib.ListN.{length, getD}
+use lib.ListN.{length, drop, getD}
+use lib.Seq.{getD-take, getD-drop}
 use borrow.Author.Tests.{eq-eqb, ne-eqb, eqb-true, lt-ltb, le-ltb, ltb-true, leb-true}
-use Rattle.lists.specs.Lists.{allBelow, part}
-use Rattle.lists.proofs.Scans.{all-from, all-more, all-fails, all-at}
-use Rattle.openrdson_core.specs.Mesh.{Mesh, unused, nodeCount, kindOf, known, usedPlaces, parallelLengths, parallel, withinLengths, within, fits, restUnused, firstBelow, validElement, placesOf, usedOf, kindOk, unusedOk, usedBelow, elementOk, wellFormed}
+use Rattle.lists.specs.Lists.{allBelow}
+use Rattle.lists.proofs.Scans.{all-start, all-from, all-more, all-fails, all-at}
+use Rattle.openrdson_core.specs.Mesh.{Mesh, unused, kindNumber, nodeCount, kindOf, parallelLengths, parallel, withinLengths, within, fits, restUnused, firstBelow, soundElement, insideElement, validElement, kindAt, placesOf, usedOf, kindOk, unusedOk, usedBelow, elementOk, wellFormed}
 use Rattle.openrdson_core.specs.declared.mesh.ElementType.{ElementType}
 use Rattle.openrdson_core.specs.declared.mesh.ElementType.the-variants.{Tet, Hex, Prism, Pyramid}
 use Rattle.openrdson_core.specs.declared.mesh.Counts.{Counts}
@@ -73,6 +74,16 @@ room-for n at len e =
     let parts = both (leb (at + n) 1048576) (leb (at + n) len) e in
     (leb-true _ _ (parts .0), leb-true _ _ (parts .1))
 
+-- ---- kinds
+
+-- a kind's number stands for it
+pub kind-of-number : (t : ElementType) → kindOf (kindNumber t) ≡ some t
+unfolding kindOf
+kind-of-number Tet = refl
+kind-of-number Hex = refl
+kind-of-number Prism = refl
+kind-of-number Pyramid = refl
+
 -- ---- the places of an element
 
 -- no kind uses more than the eight
@@ -110,21 +121,27 @@ module _ (nodes : ℕ) (places : List ℕ) where
   unfolding firstBelow
   place-below n e i l = ltb-true _ _ (all-at belowAt n e i l)
 
-module _ (nodes k : ℕ) (places : List ℕ) where
-  -- an element of no kind is not valid
-  pub valid-none : kindOf k ≡ none → validElement nodes k places ≡ false
-  valid-none e = rw e
+module _ (k : ℕ) (places : List ℕ) where
+  -- an element of no kind is not sound, and uses no place
+  pub sound-none : kindOf k ≡ none → soundElement k places ≡ false
+  sound-none e = rw e
 
-  -- nor is one with a filled place past its n; the places that it uses decide on any other
-  pub valid-filled : {t : ElementType} {n : ℕ} → kindOf k ≡ some t → n ≡ nodeCount t → restUnused n places ≡ false → validElement nodes k places ≡ false
-  valid-filled {t} {n} e is filled = let f : restUnused (nodeCount t) places ≡ false = sym (ap (λ (i : ℕ). restUnused i places) is) ∙ filled in rw (e, f)
+  pub inside-none : (nodes : ℕ) → kindOf k ≡ none → insideElement nodes k places ≡ true
+  unfolding firstBelow
+  inside-none nodes e = rw e (all-start (belowAt nodes places))
 
-  pub valid-rest : {t : ElementType} {n : ℕ} → kindOf k ≡ some t → n ≡ nodeCount t → restUnused n places ≡ true → validElement nodes k places ≡ firstBelow n nodes places
-  valid-rest {t} {n} e is free =
-      let f : restUnused (nodeCount t) places ≡ true = sym (ap (λ (i : ℕ). restUnused i places) is) ∙ free in
-      rw (e, f) (ap (λ (i : ℕ). firstBelow i nodes places) (sym is))
+  -- of an element of a kind with n nodes, the places from n on, and those before
+  pub sound-is : {t : ElementType} {n : ℕ} → kindOf k ≡ some t → n ≡ nodeCount t → soundElement k places ≡ restUnused n places
+  sound-is e is = rw e (ap (λ (i : ℕ). restUnused i places) (sym is))
+
+  pub inside-is : {t : ElementType} {n : ℕ} (nodes : ℕ) → kindOf k ≡ some t → n ≡ nodeCount t → insideElement nodes k places ≡ firstBelow n nodes places
+  inside-is nodes e is = rw e (ap (λ (i : ℕ). firstBelow i nodes places) (sym is))
 
 -- ---- an element of a mesh
+
+-- what a program tests is that it is valid
+pub element-is : (n : ℕ) (m : Mesh) (e : ℕ) → elementOk n m e ≡ validElement n (kindAt m e) (placesOf m e)
+element-is n m e = refl
 
 -- what it takes for element e to be valid in a mesh of n nodes
 pub record Valid (n : ℕ) (m : Mesh) (e : ℕ) : Type 0 where
@@ -158,6 +175,10 @@ well-formed c m h =
 -- the places that an element of a well-formed mesh uses are below the node count
 pub used-below : (c : Counts) (m : Mesh) → wellFormed c m ≡ true → (e : ℕ) → e < c .elements → (i : ℕ) → i < usedOf m e → getD (placesOf m e) i 0 < c .nodes
 used-below c m h e l i k = place-below (c .nodes) (placesOf m e) (usedOf m e) (well-formed c m h .elements e l .below) i k
+
+-- its place i is entry 8 e + i of the list of places
+pub place-at : (m : Mesh) (e i : ℕ) → i < 8 → getD (placesOf m e) i 0 ≡ getD (m .places) (8 * e + i) 0
+place-at m e i l = getD-take 8 (drop (8 * e) (m .places)) i 0 l ∙ getD-drop (8 * e) (m .places) i 0
 
 -- its places are within the list of places
 pub places-within : (m : Mesh) (e : ℕ) → parallel m ≡ true → e < length (m .kinds) → 8 * e + 8 ≤ length (m .places)

@@ -1,5 +1,5 @@
 -- Meshes of one element, worked out by the definitions: which are well formed. Assumes nothing.
-use Prim.Native.Nat.{ℕ, suc, zero}
+use Prim.Native.Nat.{ℕ}
 use mathlib.Core.Path.{_≡_, refl}
 use mathlib.Core.Bool.{Bool, true, false}
 use mathlib.Core.List.{List, [], _∷_}

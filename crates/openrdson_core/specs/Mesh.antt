@@ -95,9 +95,17 @@ restUnused n places = allBelow 8 (λ i. ltb i n || eqb (getD places i 0) unused)
 unfoldable pub firstBelow : ℕ → ℕ → List ℕ → Bool
 firstBelow n nodes places = allBelow n (λ i. ltb (getD places i 0) nodes)
 
--- an element of kind number k with these eight places is valid in a mesh of so many nodes
+-- for an element of kind number k with these eight places: its kind is one of the four, and what it does not use is unused (15)
+abbrev pub soundElement : ℕ → List ℕ → Bool
+soundElement k places = known (kindOf k) && restUnused (usedPlaces (kindOf k)) places
+
+-- the places that it uses are below the number of nodes (13)
+abbrev pub insideElement : ℕ → ℕ → List ℕ → Bool
+insideElement nodes k places = firstBelow (usedPlaces (kindOf k)) nodes places
+
+-- both: it is valid
 abbrev pub validElement : ℕ → ℕ → List ℕ → Bool
-validElement nodes k places = known (kindOf k) && restUnused (usedPlaces (kindOf k)) places && firstBelow (usedPlaces (kindOf k)) nodes places
+validElement nodes k places = soundElement k places && insideElement nodes k places
 
 -- ---- element e of a mesh
 

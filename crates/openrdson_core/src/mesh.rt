@@ -171,10 +171,10 @@ fn first_below(places: &[u32], n: usize, nodes: usize) -> bool
     true
 }
 
-// Whether element e is valid in a mesh of so many nodes. It is `pub` for the crate above, which has found the element within the lists.
-pub fn element_ok(kinds: &[u8], places: &[u32], e: usize, nodes: usize) -> bool
+// Whether element e has one of the four kinds, and the places past that kind's node count are unused (15). It is `pub` for the crate above, which has found the element within the lists.
+pub fn element_sound(kinds: &[u8], places: &[u32], e: usize) -> bool
     requires { ⌜ (e < length (now kinds)) × (8 * e + 8 ≤ length (now places)) ⌝ }
-    ensures { λ r. ⌜ r ≡ spec.validElement nodes (getD (now (kinds .entry)) e 0) (part (8 * e) 8 (now (places .entry))) ⌝ }
+    ensures { λ r. ⌜ r ≡ spec.soundElement (getD (now (kinds .entry)) e 0) (part (8 * e) 8 (now (places .entry))) ⌝ }
 {
     let found = element_type(kinds[e]);
     match found {
@@ -183,10 +183,35 @@ pub fn element_ok(kinds: &[u8], places: &[u32], e: usize, nodes: usize) -> bool
             let n = kind.node_count();
             let first = 8 * e;
             let own = &places[first..first + 8];
-            if !rest_unused(own, n) {
-                return false;
-            }
+            rest_unused(own, n)
+        }
+    }
+}
+
+// Whether the places that element e uses are below the number of nodes (13). It is `pub` for the crate above, as `element_sound` is.
+pub fn element_inside(kinds: &[u8], places: &[u32], e: usize, nodes: usize) -> bool
+    requires { ⌜ (e < length (now kinds)) × (8 * e + 8 ≤ length (now places)) ⌝ }
+    ensures { λ r. ⌜ r ≡ spec.insideElement nodes (getD (now (kinds .entry)) e 0) (part (8 * e) 8 (now (places .entry))) ⌝ }
+{
+    let found = element_type(kinds[e]);
+    match found {
+        Kind::Unknown => true,
+        Kind::Is(kind) => {
+            let n = kind.node_count();
+            let first = 8 * e;
+            let own = &places[first..first + 8];
             first_below(own, n, nodes)
         }
     }
+}
+
+// Whether element e is valid in a mesh of so many nodes. It is `pub` for the crate above, as `element_sound` is.
+pub fn element_ok(kinds: &[u8], places: &[u32], e: usize, nodes: usize) -> bool
+    requires { ⌜ (e < length (now kinds)) × (8 * e + 8 ≤ length (now places)) ⌝ }
+    ensures { λ r. ⌜ r ≡ spec.validElement nodes (getD (now (kinds .entry)) e 0) (part (8 * e) 8 (now (places .entry))) ⌝ }
+{
+    if !element_sound(kinds, places, e) {
+        return false;
+    }
+    element_inside(kinds, places, e, nodes)
 }

@@ -1,92 +1,26 @@
--- `element_ok` meets its contract: the kind, the unused places, then the used ones. Assumes nothing.
-use Prim.Native.Nat.{ℕ, _+_, _*_}
-use native.Mathlib.Omega.{arith}
-use mathlib.Core.Path.{_≡_, sym, ap, _∙_}
-use mathlib.Core.List.{List}
-use lib.ListN.{getD}
+-- `element_ok` meets its contract: it is sound, then inside. Assumes nothing.
+use mathlib.Core.Path.{sym, _∙_}
 use borrow.Author.Tests.{not-true, not-false}
-use Rattle.lists.specs.Lists.{part}
-use Rattle.lists.proofs.Parts.{part-lent}
-use Rattle.openrdson_core.specs.Mesh.{restUnused, firstBelow}
-use Rattle.openrdson_core.specs.Answers.{kindAnswer}
-use Rattle.openrdson_core.proofs.BlockLaws.{lent-length}
-use Rattle.openrdson_core.proofs.MeshLaws.{count-most, valid-none, valid-filled, valid-rest}
 use borrow.Author.Needs.{needs}
 use Rattle.openrdson_core.proofs.mesh.element_ok.Statement.{statement}
 use Rattle.openrdson_core.proofs.mesh.element_ok.Tie as tie
 use Rattle.openrdson_core.proofs.mesh.element_ok.Reads as reads
 use Rattle.openrdson_core.proofs.mesh.element_ok.Lts as lts
-use Rattle.openrdson_core.proofs.mesh.ElementType.node_count.Reads as node-count-reads
-use Rattle.openrdson_core.proofs.mesh.element_type.Reads as element-type-reads
-use Rattle.openrdson_core.proofs.mesh.first_below.Reads as first-below-reads
-use Rattle.openrdson_core.proofs.mesh.rest_unused.Reads as rest-unused-reads
+use Rattle.openrdson_core.proofs.mesh.element_inside.Reads as element-inside-reads
+use Rattle.openrdson_core.proofs.mesh.element_sound.Reads as element-sound-reads
 
-shared-slice-read-element-type : tie.Need-shared-slice-read-element-type
-shared-slice-read-element-type c = search needs
-
-element-type-requires : tie.Need-element-type-requires
-element-type-requires c κs = search needs
-
-enum-told : tie.Need-enum-told
-enum-told c = search needs
-
-enum-known-found : tie.Need-enum-known-found
-enum-known-found c = search needs
-
-node-count-requires : tie.Need-node-count-requires
-node-count-requires c κs = search needs
-
-mul-first : tie.Need-mul-first
-mul-first c = search needs
-
-add-own : tie.Need-add-own
-add-own c = search needs
-
-mul-own : tie.Need-mul-own
-mul-own c = search needs
-
-sub-own : tie.Need-sub-own
-sub-own c = search needs
-
-part-own-start : tie.Need-part-own-start
-part-own-start c = search needs
-
-part-own-end : tie.Need-part-own-end
-part-own-end c = search needs
-
-rest-unused-requires : tie.Need-rest-unused-requires
-rest-unused-requires c κs = (lent-length (c .before .before .before .before .before .before .before .before .before .args .places .now) (8 * c .before .before .before .before .before .before .before .before .before .args .e) 8 (c .before .before .before .before .before .before .before .before .before .pre .1), count-most (getD (c .before .before .before .before .before .before .before .before .before .args .kinds .now) (c .before .before .before .before .before .before .before .before .before .args .e) 0) (sym (c .before .before .before .before .before .element-type .ensures) ∙ ap kindAnswer (c .before .before .before .found .given .1)) (c .before .node-count .ensures))
+element-sound-requires : tie.Need-element-sound-requires
+element-sound-requires c κs = search needs
 
 returns : tie.Need-returns
-returns c = sym (valid-filled (c .before .before .before .before .before .before .before .before .before .before .before .args .nodes) (getD (c .before .before .before .before .before .before .before .before .before .before .before .args .kinds .now) (c .before .before .before .before .before .before .before .before .before .before .before .args .e) 0) (part (8 * c .before .before .before .before .before .before .before .before .before .before .before .args .e) 8 (c .before .before .before .before .before .before .before .before .before .before .before .args .places .now)) (sym (c .before .before .before .before .before .before .before .element-type .ensures) ∙ ap kindAnswer (c .before .before .before .before .before .found .given .1)) (c .before .before .before .node-count .ensures) (sym (ap (restUnused (c .before .before .before .node-count .result)) (part-lent (c .before .before .before .before .before .before .before .before .before .before .before .args .places .now) (8 * c .before .before .before .before .before .before .before .before .before .before .before .args .e) 8)) ∙ sym (c .before .rest-unused .ensures) ∙ not-true _ (c .if1 .taken)))
+returns c = rw (sym (c .before .element-sound .ensures) ∙ not-true _ (c .if1 .taken))
 
-first-below-requires : tie.Need-first-below-requires
-first-below-requires c κs = (lent-length (c .before .before .before .before .before .before .before .before .before .before .before .args .places .now) (8 * c .before .before .before .before .before .before .before .before .before .before .before .args .e) 8 (c .before .before .before .before .before .before .before .before .before .before .before .pre .1), count-most (getD (c .before .before .before .before .before .before .before .before .before .before .before .args .kinds .now) (c .before .before .before .before .before .before .before .before .before .before .before .args .e) 0) (sym (c .before .before .before .before .before .before .before .element-type .ensures) ∙ ap kindAnswer (c .before .before .before .before .before .found .given .1)) (c .before .before .before .node-count .ensures))
+element-inside-requires : tie.Need-element-inside-requires
+element-inside-requires c κs = search needs
 
 returns-2 : tie.Need-returns-2
-returns-2 c = sym (valid-none (c .before .before .before .before .before .before .args .nodes) (getD (c .before .before .before .before .before .before .args .kinds .now) (c .before .before .before .before .before .before .args .e) 0) (part (8 * c .before .before .before .before .before .before .args .e) 8 (c .before .before .before .before .before .before .args .places .now)) (sym (c .before .before .element-type .ensures) ∙ ap kindAnswer (c .enum-told .given .1)))
-
-returns-3 : tie.Need-returns-3
-returns-3 c = c .first-below .ensures ∙ ap (firstBelow (c .before .before .before .before .node-count .result) (c .before .before .before .before .before .before .before .before .before .before .before .before .args .nodes)) (part-lent (c .before .before .before .before .before .before .before .before .before .before .before .before .args .places .now) (8 * c .before .before .before .before .before .before .before .before .before .before .before .before .args .e) 8)
-    ∙ sym (valid-rest (c .before .before .before .before .before .before .before .before .before .before .before .before .args .nodes) (getD (c .before .before .before .before .before .before .before .before .before .before .before .before .args .kinds .now) (c .before .before .before .before .before .before .before .before .before .before .before .before .args .e) 0) (part (8 * c .before .before .before .before .before .before .before .before .before .before .before .before .args .e) 8 (c .before .before .before .before .before .before .before .before .before .before .before .before .args .places .now)) (sym (c .before .before .before .before .before .before .before .before .element-type .ensures) ∙ ap kindAnswer (c .before .before .before .before .before .before .found .given .1)) (c .before .before .before .before .node-count .ensures) (sym (ap (restUnused (c .before .before .before .before .node-count .result)) (part-lent (c .before .before .before .before .before .before .before .before .before .before .before .before .args .places .now) (8 * c .before .before .before .before .before .before .before .before .before .before .before .before .args .e) 8)) ∙ sym (c .before .before .rest-unused .ensures) ∙ not-false _ (c .before .if1 .left)))
+returns-2 c = rw (sym (c .before .before .element-sound .ensures) ∙ not-false _ (c .before .if1 .left)) (c .element-inside .ensures)
 
 pub element-ok-spec : {M : Type 1} → statement M
 element-ok-spec =
-    tie.close
-    (tie.spec
-    shared-slice-read-element-type
-    element-type-requires
-    enum-told
-    enum-known-found
-    node-count-requires
-    mul-first
-    add-own
-    mul-own
-    sub-own
-    part-own-start
-    part-own-end
-    rest-unused-requires
-    returns
-    first-below-requires
-    returns-2
-    returns-3)
+    tie.close (tie.spec element-sound-requires returns element-inside-requires returns-2)

@@ -1,5 +1,4 @@
 -- `lists_parallel` meets its contract: a test a row. Assumes nothing.
-use mathlib.Core.Path.{_≡_}
 use borrow.Author.Tests.{ne-eqb, eq-eqb}
 use Rattle.openrdson_core.specs.Mesh.{parallelLengths}
 use Rattle.openrdson_core.proofs.MeshLaws.{eight-each, not-eight}

@@ -1,7 +1,6 @@
 -- `rest_unused` meets its contract: a scan from place n on. Assumes nothing.
 use Prim.Native.Nat.{ℕ, _≤_, _-_}
 use native.Mathlib.Omega.{arith}
-use borrow.Author.Needs.{needs}
 use mathlib.Core.Path.{_≡_, sym, ap, _∙_}
 use mathlib.Core.Bool.{true}
 use Rattle.lists.specs.Lists.{allBelow}
