@@ -7,3 +7,5 @@ pub mod Areas
 pub mod Corners
 pub mod SolidAnswers
 pub mod Shapes
+pub mod MeshLaws
+pub mod MeshShapes

@@ -18,6 +18,9 @@ use Rattle.openrdson_core.specs.declared.blocks.Row.{Row}
 use Rattle.openrdson_core.specs.declared.blocks.Row.the-variants as row
 use Rattle.openrdson_core.specs.declared.tech.Numbered.{Numbered}
 use Rattle.openrdson_core.specs.declared.tech.Numbered.the-variants as numbered
+use Rattle.openrdson_core.specs.declared.mesh.ElementType.{ElementType}
+use Rattle.openrdson_core.specs.declared.mesh.Kind.{Kind}
+use Rattle.openrdson_core.specs.declared.mesh.Kind.the-variants as kind
 
 abbrev pub checkAnswer : Check → Answer (Unit {0})
 checkAnswer check.Fine = given tt
@@ -42,3 +45,7 @@ rowAnswer row.Nowhere = none
 abbrev pub numberedAnswer : Numbered → Answer ℕ
 numberedAnswer (numbered.Value m) = given (m .0)
 numberedAnswer (numbered.Refused why) = refused (refusalNumber why)
+
+abbrev pub kindAnswer : Kind → Option ElementType
+kindAnswer (kind.Is t) = some t
+kindAnswer kind.Unknown = none

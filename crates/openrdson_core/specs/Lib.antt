@@ -11,3 +11,4 @@ pub mod Blocks
 pub mod Maps
 pub mod Tech
 pub mod Layout
+pub mod Mesh

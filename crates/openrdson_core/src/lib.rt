@@ -1,10 +1,11 @@
-// Points, bounding boxes, areas, the rectangle test and solids (the original's geometry.rs); name blocks and the lookups in them (tech.rs, layout.rs).
+// Points, bounding boxes, areas, the rectangle test and solids (the original's geometry.rs), the kinds of elements and the counts of a mesh (mesh.rs), name blocks and the lookups in them (tech.rs, layout.rs).
 mod area;
 mod blocks;
 mod bounds;
 mod bytes;
 mod layout;
 mod maps;
+mod mesh;
 mod points;
 mod rectangle;
 mod refusals;
@@ -23,6 +24,19 @@ pub use maps::Span;
 pub use maps::look_up;
 pub use maps::name_place;
 pub use maps::physical_name;
+pub use mesh::Counts;
+pub use mesh::ElementType;
+pub use mesh::Kind;
+pub use mesh::NodeNumber;
+pub use mesh::Point3;
+pub use mesh::UNUSED;
+pub use mesh::counts_within;
+pub use mesh::element_inside;
+pub use mesh::element_ok;
+pub use mesh::element_sound;
+pub use mesh::element_type;
+pub use mesh::has_room;
+pub use mesh::lists_parallel;
 pub use points::Check;
 pub use points::Judged;
 pub use points::Measured;
