@@ -1,5 +1,5 @@
 //! The sample that is recorded: of each call some accepted cases, some of each refusal, mostly small.
-use cases::call::{Call, CALLS, RECORDED};
+use cases::call::{Call, CALLS, RECORDED_NUMBERS};
 use cases::case::{word, Answer, Case};
 use cases::expected;
 
@@ -26,7 +26,7 @@ pub struct Sample {
 
 pub fn taken() -> Sample {
     let mut sample = Sample { cases: 0, bytes: vec![] };
-    for call in &CALLS[..RECORDED] {
+    for call in &CALLS[RECORDED_NUMBERS] {
         sample.take(*call);
     }
     sample
@@ -61,7 +61,7 @@ impl Sample {
         self.words(case.params.map(|param| word(f64::from_bits(param))));
         self.words(case.xs.iter().chain(case.ys.iter()).map(|x| word(*x)));
         self.words([answer.status as u64]);
-        self.words(answer.values);
+        self.words(answer.values[..4].to_vec());
     }
 
     fn words(&mut self, words: impl IntoIterator<Item = u64>) {
