@@ -1,5 +1,5 @@
 //! Cases of the calls on name blocks: the blocks, the name asked for and the layer number asked for.
-use crate::blocks::{Kind, Lent, Name, Rows};
+use crate::blocks::{Lent, Name, Rows};
 use crate::call::Call;
 use crate::damage::damaged;
 use crate::names;
@@ -50,12 +50,16 @@ fn small(r: &mut Random, call: Call) -> Asked {
 
 fn any(r: &mut Random, call: Call) -> Asked {
     let utf8 = !r.one_in(3);
-    let long = if r.one_in(60) { r.below(call.blocks().len().max(1)) } else { usize::MAX };
-    let draw_block = |(place, kind): (usize, &Kind)| {
-        let count = if place == long { r.pick(&[17, 255, 256, 256, 257, 257, 300]) } else { r.below(9) };
-        rows::draw(r, *kind, count, utf8)
-    };
-    let blocks = call.blocks().iter().enumerate().map(draw_block).collect();
+    let mut blocks: Vec<Rows> = vec![];
+    let all_long = r.one_in(300);
+    for kind in call.blocks() {
+        let count = match r.below(60 * call.blocks().len()) {
+            _ if all_long => 256,
+            0 => r.pick(&[17, 255, 256, 256, 257, 257, 300]),
+            _ => r.below(9),
+        };
+        blocks.push(rows::draw(r, *kind, count, utf8));
+    }
     with_asked(r, call, blocks, utf8)
 }
 

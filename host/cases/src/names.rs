@@ -10,7 +10,7 @@ const UTF8: [&[u8]; 30] = [
     "層".as_bytes(), "M1\u{10ffff}".as_bytes(),
 ];
 
-const NOT_UTF8: [&[u8]; 6] = [b"\xff", b"M1\xff", b"\x80M1", b"M\xc3", b"\xe5\xb1", b"\xff\xff\xff\xff\xff\xff\xff\xff\xff\xff\xff\xff\xff\xff\xff\xff\xff\xff\xff\xff\xff\xff\xff\xff\xff\xff\xff\xff\xff\xff\xff\xff"];
+const NOT_UTF8: [&[u8]; 6] = [b"\xff", b"M1\xff", b"\x80M1", b"M\xc3", b"\xe5\xb1", &[0xff; 32]];
 
 /// A name of the pool.
 pub fn draw(r: &mut Random, utf8: bool) -> Name {
@@ -20,9 +20,9 @@ pub fn draw(r: &mut Random, utf8: bool) -> Name {
     r.pick(&UTF8).to_vec()
 }
 
-/// The name of a row of a long block; a third fill their cell.
-pub fn of_row(place: usize) -> Name {
-    let mut name = format!("n{place}").into_bytes();
+/// The name of a row of a long block, which has a letter of its own; a third fill their cell.
+pub fn of_row(letter: char, place: usize) -> Name {
+    let mut name = format!("{letter}{place}").into_bytes();
     if place % 3 == 0 {
         name.resize(32, b'_');
     }

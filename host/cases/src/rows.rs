@@ -28,16 +28,19 @@ pub fn draw(r: &mut Random, kind: Kind, count: usize, utf8: bool) -> Rows {
 
 /// More rows than the pool has names.
 const LONG: usize = 16;
+const LETTERS: [char; 4] = ['n', 'o', 'p', 'q'];
 
 fn with_repeats(r: &mut Random, count: usize, utf8: bool) -> Vec<Name> {
-    let name = |place| if count > LONG && !r.one_in(8) { names::of_row(place) } else { names::draw(r, utf8) };
+    let letter = r.pick(&LETTERS);
+    let name = |place| if count > LONG && !r.one_in(8) { names::of_row(letter, place) } else { names::draw(r, utf8) };
     (0..count).map(name).collect()
 }
 
 fn distinct(r: &mut Random, count: usize, utf8: bool) -> Vec<Name> {
     let mut keys: Vec<Name> = vec![];
     if count > LONG {
-        keys = (0..count).map(names::of_row).collect();
+        let letter = r.pick(&LETTERS);
+        keys = (0..count).map(|place| names::of_row(letter, place)).collect();
         r.shuffle(&mut keys);
     }
     while keys.len() < count {
