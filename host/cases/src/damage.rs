@@ -46,7 +46,7 @@ fn set_count(r: &mut Random, bytes: &mut [u8], rows: usize) {
         0 => rows as u16 + 1,
         1 => (rows as u16).wrapping_sub(1),
         2 => (rows as u16).swap_bytes(),
-        _ => r.pick(&[0, 1, 255, 256, 257, 258, 32768, 65535]),
+        _ => r.pick(&[0, 1, 255, 256, 257, 258, 1024, 32768, 65535]),
     };
     bytes[..2].copy_from_slice(&count.to_le_bytes());
 }

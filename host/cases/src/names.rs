@@ -38,7 +38,7 @@ pub fn near(r: &mut Random, name: &[u8]) -> Name {
         2 => near.push(0),
         // The padded cell, and past it.
         3 => near.resize(32, 0),
-        4 => near.resize(r.between(33, 64) as usize, r.pick(&[0, b'n'])),
+        4 => near.resize(r.pick(&[33, 34, 64, 300]), r.pick(&[0, b'n'])),
         5 => near.insert(0, r.pick(b"nM_")),
         6 => near.make_ascii_uppercase(),
         7 if !near.is_empty() => near[r.below(name.len())] = 0,
@@ -74,7 +74,8 @@ pub fn marked(r: &mut Random, utf8: bool) -> Name {
     if r.one_in(2) {
         name.clear();
     }
-    for _ in 0..r.below(4) {
+    let marks = if r.one_in(30) { 60 } else { 4 };
+    for _ in 0..r.below(marks) {
         let mut mark = r.pick(&MARKS).to_vec();
         match r.below(4) {
             0 => change(r, &mut mark),

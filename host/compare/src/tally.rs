@@ -14,13 +14,14 @@ pub struct Tally {
     pub call: Call,
     cases: u64,
     by_status: [u64; 17],
-    truths: u64,
+    /// Accepted cases whose first value is not zero.
+    hits: u64,
     mismatches: u64,
 }
 
 impl Tally {
     pub fn new(call: Call) -> Self {
-        Tally { call, cases: 0, by_status: [0; 17], truths: 0, mismatches: 0 }
+        Tally { call, cases: 0, by_status: [0; 17], hits: 0, mismatches: 0 }
     }
 
     /// Runs these cases on both sides.
@@ -42,8 +43,8 @@ impl Tally {
     fn count(&mut self, expected: &Answer) {
         self.cases += 1;
         self.by_status[expected.status as usize] += 1;
-        if expected.status == 0 && expected.values[0] == 1 {
-            self.truths += 1;
+        if expected.status == 0 && expected.values[0] != 0 {
+            self.hits += 1;
         }
     }
 
@@ -59,8 +60,10 @@ impl Tally {
 impl fmt::Display for Tally {
     fn fmt(&self, f: &mut fmt::Formatter) -> fmt::Result {
         write!(f, "{:26}{:9} cases;  0: {}", self.call.name(), self.cases, self.by_status[0])?;
-        if self.call.gives().first() == Some(&Output::Truth) {
-            write!(f, " ({} true)", self.truths)?;
+        match self.call {
+            Call::PhysicalName | Call::LayerName | Call::MaterialNumber => write!(f, " ({} found)", self.hits)?,
+            call if call.gives().first() == Some(&Output::Truth) => write!(f, " ({} true)", self.hits)?,
+            _ => {}
         }
         for refusal in self.call.refusals() {
             write!(f, "  {refusal}: {}", self.by_status[*refusal as usize])?;

@@ -4,6 +4,10 @@ use cases::call::{Call, CALLS, RECORDED_BLOCKS};
 use cases::case::{Answer, Case};
 use cases::expected;
 
+/// Cases of each call that are looked at; the steps spread the changed bytes over their blocks.
+const LOOKED_AT: u64 = 400_000;
+const STEP: usize = 41;
+
 /// Cases of a call that are kept: accepted ones, and those of each refusal.
 const ACCEPTED: usize = 90;
 const REFUSED: usize = 60;
@@ -26,10 +30,7 @@ fn take(sample: &mut Sample, call: Call) {
     for refusal in call.refusals() {
         left[*refusal as usize] = REFUSED;
     }
-    for number in 0.. {
-        if left == [0; 17] {
-            return;
-        }
+    for number in (0..LOOKED_AT).step_by(STEP) {
         let case = Case::draw(call, SEED, number);
         if !is_small(&case) {
             continue;
