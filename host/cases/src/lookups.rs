@@ -64,7 +64,10 @@ fn any(r: &mut Random, call: Call) -> Asked {
 }
 
 fn with_asked(r: &mut Random, call: Call, blocks: Vec<Rows>, utf8: bool) -> Asked {
-    let name = call.asks_name().then(|| if blocks.is_empty() { names::marked(r, utf8) } else { asked(r, &blocks, utf8) });
+    let name = call.asks_name().then(|| match call {
+        Call::IsMarker => names::marked(r, utf8),
+        _ => asked(r, &blocks, utf8),
+    });
     let layer = if call == Call::LayerName { rows::layer_asked(r, &blocks[0]) } else { 0 };
     (blocks, name, layer)
 }

@@ -6,8 +6,11 @@ use cases::case::Case;
 
 /// The status of the call, its values among the outputs.
 pub unsafe fn status(case: &Case, outputs: &mut Outputs) -> u32 {
-    let lent = |place: usize| case.lent.get(place).map_or((std::ptr::null(), 0), |lent| (lent.bytes.as_ptr(), lent.bytes.len()));
-    let [(a, na), (b, nb), (c, nc), (d, nd), (e, ne), (f, nf)] = [0, 1, 2, 3, 4, 5].map(lent);
+    let lent = |place: usize| match case.lent.get(place) {
+        Some(lent) => (lent.bytes.as_ptr(), lent.bytes.len()),
+        None => (std::ptr::null(), 0),
+    };
+    let [(a, na), (b, nb), (c, nc), (d, nd), (e, ne), (f, nf)] = std::array::from_fn(lent);
     let [truth, has_height, _, has_thickness, ..] = outputs.places::<bool>();
     let [number, ..] = outputs.places::<u32>();
     let [p1, p2, p3, p4, p5, ..] = outputs.places::<usize>();

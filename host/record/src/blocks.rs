@@ -8,9 +8,10 @@ use cases::expected;
 const LOOKED_AT: u64 = 400_000;
 const STEP: usize = 41;
 
-/// Cases of a call that are kept: accepted ones, and those of each refusal.
+/// Cases of a call that are kept: accepted ones, those of each refusal, and those of a call that refuses nothing.
 const ACCEPTED: usize = 90;
 const REFUSED: usize = 60;
+const UNREFUSED: usize = 600;
 
 /// The most rows of a block that is recorded, and the longest name.
 const ROWS: usize = 8;
@@ -26,7 +27,7 @@ pub fn taken() -> Sample {
 
 fn take(sample: &mut Sample, call: Call) {
     let mut left = [0; 17];
-    left[0] = ACCEPTED;
+    left[0] = if call.refusals().is_empty() { UNREFUSED } else { ACCEPTED };
     for refusal in call.refusals() {
         left[*refusal as usize] = REFUSED;
     }

@@ -26,7 +26,8 @@ fn undamaged(case: &Case) -> Option<Vec<&Rows>> {
 
 fn figures_admitted(rows: &Rows) -> bool {
     let Rows::Stack(rows) = rows else { return true };
-    rows.iter().flat_map(|row| [row.height, row.thickness]).flatten().all(|figure| (-524_288.0..=524_288.0).contains(&figure))
+    let mut figures = rows.iter().flat_map(|row| [row.height, row.thickness]).flatten();
+    figures.all(|figure| (-524_288.0..=524_288.0).contains(&figure))
 }
 
 /// None where a name is not UTF-8.
