@@ -1,6 +1,7 @@
-//! The calls compared: their numbers, names, refusals and kinds of answer.
+//! The calls compared: their numbers, names, blocks, refusals and outputs.
+use crate::blocks::Kind;
 
-/// Each call by its number in the recorded answers; those past 13 are not recorded.
+/// Each call by its number in the recorded answers; those past 21 are not recorded.
 #[derive(Clone, Copy, PartialEq, Debug)]
 #[repr(u64)]
 pub enum Call {
@@ -17,6 +18,14 @@ pub enum Call {
     Abs,
     CeilCapped,
     NearestCapped,
+    CheckBlocks,
+    LookUp,
+    PhysicalName,
+    LayerName,
+    StackLayer,
+    ViaLayers,
+    MaterialNumber,
+    IsMarker,
     CoordinateInRange,
     ExtentInRange,
     FigureInRange,
@@ -36,22 +45,29 @@ pub enum Call {
 
 use Call::*;
 
-pub const CALLS: [Call; 28] = [
+pub const CALLS: [Call; 36] = [
     PolygonSignedArea, PolygonArea, IsCcw, IsAxisAlignedRectangle, BboxFromPoints,
     BoxVolume, PrismVolume, BoxFootprintBbox, PrismFootprintBbox,
-    Sqrt, Abs, CeilCapped, NearestCapped, CoordinateInRange, ExtentInRange, FigureInRange,
+    Sqrt, Abs, CeilCapped, NearestCapped,
+    CheckBlocks, LookUp, PhysicalName, LayerName, StackLayer, ViaLayers, MaterialNumber, IsMarker,
+    CoordinateInRange, ExtentInRange, FigureInRange,
     BboxEmpty, BboxIsEmpty, BboxExtendPoint, BboxExtend, BboxUnion, BboxWidth, BboxHeight, BboxCenter,
     BoxZBottom, BoxZTop, PrismZBottom, PrismZTop,
 ];
 
-/// How many of the calls are recorded.
-pub const RECORDED: usize = 13;
+/// The calls that are recorded: those on numbers, and those on name blocks and names.
+pub const RECORDED_NUMBERS: std::ops::Range<usize> = 0..13;
+pub const RECORDED_BLOCKS: std::ops::Range<usize> = 13..21;
 
-/// What an accepted call gives: so many floats, a truth or a whole number.
+/// One value of an accepted call.
 #[derive(Clone, Copy, PartialEq)]
-pub enum Gives {
-    Floats(usize),
+pub enum Output {
+    Float,
+    /// One byte.
     Truth,
+    /// A u32.
+    Number,
+    /// Eight bytes.
     Whole,
 }
 
@@ -76,6 +92,14 @@ impl Call {
             Abs => "abs",
             CeilCapped => "ceil_capped",
             NearestCapped => "nearest_capped",
+            CheckBlocks => "check_blocks",
+            LookUp => "look_up",
+            PhysicalName => "physical_name",
+            LayerName => "layer_name",
+            StackLayer => "stack_layer",
+            ViaLayers => "via_layers",
+            MaterialNumber => "material_number",
+            IsMarker => "is_marker",
             CoordinateInRange => "coordinate_in_range",
             ExtentInRange => "extent_in_range",
             FigureInRange => "figure_in_range",
@@ -98,25 +122,53 @@ impl Call {
         CALLS.into_iter().find(|call| call.name() == name)
     }
 
+    /// The blocks it is lent, in order.
+    pub fn blocks(self) -> &'static [Kind] {
+        match self {
+            CheckBlocks => &[Kind::LayerNames, Kind::Map, Kind::Map, Kind::Stack, Kind::Stack, Kind::Vias],
+            LookUp | PhysicalName => &[Kind::Map, Kind::Map],
+            LayerName => &[Kind::LayerNames],
+            StackLayer => &[Kind::Stack],
+            ViaLayers => &[Kind::Vias],
+            MaterialNumber => &[Kind::Stack, Kind::Stack, Kind::Vias],
+            _ => &[],
+        }
+    }
+
+    /// Whether a name is asked for, after the blocks.
+    pub fn asks_name(self) -> bool {
+        matches!(self, LookUp | PhysicalName | StackLayer | ViaLayers | MaterialNumber | IsMarker)
+    }
+
     /// The refusals it has, in document 01's order.
     pub fn refusals(self) -> &'static [u32] {
         match self {
             PolygonSignedArea | PolygonArea | IsCcw | IsAxisAlignedRectangle | BboxFromPoints => &[16, 2, 1],
             BoxVolume | BoxFootprintBbox => &[16, 2, 1],
             PrismVolume | PrismFootprintBbox => &[16, 15, 2, 1],
+            CheckBlocks | StackLayer => &[14, 1],
+            LookUp | PhysicalName | LayerName | ViaLayers | MaterialNumber => &[14],
             _ => &[],
         }
     }
 
-    pub fn gives(self) -> Gives {
+    /// The values it gives, in order.
+    pub fn gives(self) -> &'static [Output] {
+        use Output::*;
         match self {
-            IsCcw | IsAxisAlignedRectangle | BboxIsEmpty => Gives::Truth,
-            CoordinateInRange | ExtentInRange | FigureInRange => Gives::Truth,
-            CeilCapped | NearestCapped => Gives::Whole,
-            BboxFromPoints | BoxFootprintBbox | PrismFootprintBbox => Gives::Floats(4),
-            BboxEmpty | BboxExtendPoint | BboxExtend | BboxUnion => Gives::Floats(4),
-            BboxCenter => Gives::Floats(2),
-            _ => Gives::Floats(1),
+            IsCcw | IsAxisAlignedRectangle | BboxIsEmpty | IsMarker | LookUp => &[Truth],
+            CoordinateInRange | ExtentInRange | FigureInRange => &[Truth],
+            CeilCapped | NearestCapped => &[Whole],
+            BboxFromPoints | BoxFootprintBbox | PrismFootprintBbox => &[Float; 4],
+            BboxEmpty | BboxExtendPoint | BboxExtend | BboxUnion => &[Float; 4],
+            BboxCenter => &[Float; 2],
+            CheckBlocks => &[],
+            PhysicalName => &[Number, Whole, Whole],
+            LayerName => &[Whole, Whole],
+            StackLayer => &[Truth, Truth, Float, Truth, Float],
+            ViaLayers => &[Truth, Whole, Whole, Whole, Whole],
+            MaterialNumber => &[Number],
+            _ => &[Float],
         }
     }
 }

@@ -1,8 +1,9 @@
 //! One case of a call, and one answer to it, in the words of the recorded answers.
+use crate::blocks::Lent;
 use crate::call::Call;
 use crate::call::Call::*;
 use crate::random::Random;
-use crate::{boxes, numbers, rings, roots, solids};
+use crate::{boxes, lookups, numbers, rings, roots, solids};
 use std::borrow::Cow;
 
 /// A list of coordinates; the longest ones are made once and lent.
@@ -10,19 +11,24 @@ pub type List = Cow<'static, [f64]>;
 
 /// What a call is given. Parameters are floats by their bits, or whole numbers:
 /// a box its six bounds; a prism z_bottom, z_top, start, count; a method of Bbox the four bounds,
-/// then the other box's or the point; a call on one number, that number.
+/// then the other box's or the point; a call on one number, that number; `layer_name`, the layer's number.
+/// Lent are the call's blocks, then the name asked for.
 pub struct Case {
     pub call: Call,
     pub xs: List,
     pub ys: List,
     pub params: [u64; 8],
+    pub lent: Vec<Lent>,
 }
 
-/// A status, and up to four values: floats by their bits, truths as 0 or 1, whole numbers as they are.
+/// The most values that a call gives.
+pub const VALUES: usize = 7;
+
+/// A status, and the values: floats by their bits, truths as 0 or 1, whole numbers as they are, then zeros.
 #[derive(Clone, Copy, PartialEq, Debug)]
 pub struct Answer {
     pub status: u32,
-    pub values: [u64; 4],
+    pub values: [u64; VALUES],
 }
 
 /// A float by its bits; every NaN is the same.
@@ -32,19 +38,22 @@ pub fn word(x: f64) -> u64 {
 
 impl Answer {
     pub fn refused(status: u32) -> Self {
-        Answer { status, values: [0; 4] }
+        Answer { status, values: [0; VALUES] }
     }
 
-    pub fn floats(given: &[f64]) -> Self {
-        let mut values = [0; 4];
-        for (value, x) in values.iter_mut().zip(given) {
-            *value = word(*x);
-        }
+    pub fn accepted(given: &[u64]) -> Self {
+        let mut values = [0; VALUES];
+        values[..given.len()].copy_from_slice(given);
         Answer { status: 0, values }
     }
 
+    pub fn floats(given: &[f64]) -> Self {
+        let words: Vec<u64> = given.iter().map(|x| word(*x)).collect();
+        Answer::accepted(&words)
+    }
+
     pub fn whole(value: u64) -> Self {
-        Answer { status: 0, values: [value, 0, 0, 0] }
+        Answer::accepted(&[value])
     }
 }
 
@@ -55,12 +64,19 @@ impl Case {
         match call {
             PolygonSignedArea | PolygonArea | IsCcw | IsAxisAlignedRectangle | BboxFromPoints => {
                 let (xs, ys) = rings::lists(r, number);
-                Case { call, xs: xs.into(), ys: ys.into(), params: [0; 8] }
+                Case { call, xs: xs.into(), ys: ys.into(), params: [0; 8], lent: vec![] }
             }
             BoxVolume | BoxFootprintBbox => solids::boxed(call, r),
             PrismVolume | PrismFootprintBbox => solids::prism(call, r, number),
             Sqrt => Case::of_numbers(call, &[roots::draw(r, number)]),
             Abs => Case::of_numbers(call, &[numbers::any(r)]),
+            CheckBlocks | LookUp | PhysicalName | LayerName | StackLayer | ViaLayers | MaterialNumber | IsMarker => {
+                let (lent, layer) = lookups::draw(call, seed, number);
+                let mut case = Case::of_numbers(call, &[]);
+                case.params[0] = layer as u64;
+                case.lent = lent;
+                case
+            }
             CeilCapped | NearestCapped => Case::of_numbers(call, &[numbers::to_round(r)]),
             CoordinateInRange | ExtentInRange | FigureInRange => Case::of_numbers(call, &[numbers::to_range(r)]),
             BboxEmpty | BboxIsEmpty | BboxExtendPoint | BboxExtend | BboxUnion | BboxWidth | BboxHeight
@@ -84,7 +100,7 @@ impl Case {
         for (param, x) in params.iter_mut().zip(numbers) {
             *param = x.to_bits();
         }
-        Case { call, xs: List::Borrowed(&[]), ys: List::Borrowed(&[]), params }
+        Case { call, xs: List::Borrowed(&[]), ys: List::Borrowed(&[]), params, lent: vec![] }
     }
 
     pub fn float(&self, place: usize) -> f64 {
@@ -104,5 +120,20 @@ impl Case {
     /// A prism's count.
     pub fn count(&self) -> u32 {
         self.params[3] as u32
+    }
+
+    /// The layer's number.
+    pub fn layer(&self) -> i16 {
+        self.params[0] as i16
+    }
+
+    /// The bytes of a block, by its place among the call's blocks.
+    pub fn block(&self, place: usize) -> &[u8] {
+        &self.lent[place].bytes
+    }
+
+    /// The name asked for.
+    pub fn name(&self) -> &[u8] {
+        self.block(self.call.blocks().len())
     }
 }

@@ -1,10 +1,25 @@
-//! What is expected of a case: a refusal of document 01, or else what the unchanged Rust answers.
+//! What is expected of a case: a refusal of document 01, or else what the unchanged Rust answers. Of a call on name
+//! blocks it is document 01's answer, held to the Rust's.
+mod lookups;
+
 use crate::call::Call::*;
 use crate::case::{Answer, Case};
 use crate::paper;
 use oracle::core::geometry::*;
 
 pub fn answer(case: &Case) -> Answer {
+    if case.call.blocks().is_empty() && !case.call.asks_name() {
+        return of_numbers(case);
+    }
+    let answer = paper::blocks::answer(case);
+    if lookups::differs(case, &answer) {
+        let bytes: Vec<_> = case.lent.iter().map(|lent| &lent.bytes).collect();
+        panic!("document 01 and the Rust differ: {} {bytes:x?} layer {}: {answer:?}", case.call.name(), case.layer());
+    }
+    answer
+}
+
+fn of_numbers(case: &Case) -> Answer {
     match paper::status(case) {
         0 => of_the_rust(case),
         status => Answer::refused(status),
@@ -54,6 +69,7 @@ fn of_the_rust(case: &Case) -> Answer {
         BoxZTop => Answer::floats(&[boxed(case).z_top()]),
         PrismZBottom => Answer::floats(&[flat_prism(case).z_bottom()]),
         PrismZTop => Answer::floats(&[flat_prism(case).z_top()]),
+        _ => unreachable!("{} is not a call on numbers", case.call.name()),
     }
 }
 

@@ -1,13 +1,18 @@
 //! The calls compared, their seeded cases, and what is expected of each case.
+pub mod blocks;
 pub mod call;
 pub mod case;
 pub mod expected;
 pub mod paper;
 
 mod boxes;
+mod damage;
+mod lookups;
+mod names;
 mod numbers;
 mod random;
 mod rectangles;
 mod rings;
 mod roots;
+mod rows;
 mod solids;

@@ -104,3 +104,26 @@ pub fn to_range(r: &mut Random) -> f64 {
     let steps = r.between(-1, 1);
     signed(r, nudge(x, steps))
 }
+
+/// 2^19, the largest size of a stack figure.
+const FIGURE_MOST: f64 = 524_288.0;
+
+/// An admitted stack figure.
+pub fn figure(r: &mut Random) -> f64 {
+    match r.below(4) {
+        0 => r.pick(&[0.0, -0.0, 5e-324, FIGURE_MOST, -FIGURE_MOST, FIGURE_MOST.next_down(), -FIGURE_MOST.next_down()]),
+        1 => r.unit() * 1e-6,
+        _ => coordinate(r) / 2.0,
+    }
+}
+
+/// A stack figure that is not finite or too large.
+pub fn outside_figure(r: &mut Random) -> f64 {
+    if r.one_in(2) {
+        return outside(r);
+    }
+    let power = r.between(19, 21);
+    let x = of_power(r, power);
+    let x = r.pick(&[FIGURE_MOST.next_up(), MOST, x.next_up()]);
+    signed(r, x)
+}

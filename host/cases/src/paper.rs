@@ -1,4 +1,6 @@
-//! Document 01's refusals, transcribed: the first that applies, or 0.
+//! Document 01's refusals, transcribed: the first that applies, or 0. Calls on name blocks are answered whole.
+pub mod blocks;
+
 use crate::call::Call::*;
 use crate::case::Case;
 

@@ -45,7 +45,7 @@ pub fn boxed(call: Call, r: &mut Random) -> Case {
     for (param, x) in params.iter_mut().zip(bounds) {
         *param = x.to_bits();
     }
-    Case { call, xs, ys, params }
+    Case { call, xs, ys, params, lent: vec![] }
 }
 
 fn bounds(r: &mut Random) -> [f64; 6] {
@@ -93,7 +93,7 @@ pub fn prism(call: Call, r: &mut Random, number: u64) -> Case {
 
 fn of(call: Call, heights: [f64; 2], start: u32, count: u32, xs: List, ys: List) -> Case {
     let params = [heights[0].to_bits(), heights[1].to_bits(), start as u64, count as u64, 0, 0, 0, 0];
-    Case { call, xs, ys, params }
+    Case { call, xs, ys, params, lent: vec![] }
 }
 
 fn heights(r: &mut Random) -> [f64; 2] {

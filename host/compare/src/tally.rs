@@ -1,5 +1,5 @@
 //! What came of the cases of one call.
-use cases::call::{Call, Gives};
+use cases::call::{Call, Output};
 use cases::case::{Answer, Case};
 use cases::expected;
 use std::fmt;
@@ -7,20 +7,21 @@ use std::fmt;
 /// Mismatches of a call that are printed.
 const PRINTED: u64 = 5;
 
-/// Cases after which a refusal that was never drawn is a failure.
+/// Cases after which a status that was never drawn is a failure.
 const ENOUGH: u64 = 1000;
 
 pub struct Tally {
     pub call: Call,
     cases: u64,
     by_status: [u64; 17],
-    truths: u64,
+    /// Accepted cases whose first value is not zero.
+    hits: u64,
     mismatches: u64,
 }
 
 impl Tally {
     pub fn new(call: Call) -> Self {
-        Tally { call, cases: 0, by_status: [0; 17], truths: 0, mismatches: 0 }
+        Tally { call, cases: 0, by_status: [0; 17], hits: 0, mismatches: 0 }
     }
 
     /// Runs these cases on both sides.
@@ -42,13 +43,13 @@ impl Tally {
     fn count(&mut self, expected: &Answer) {
         self.cases += 1;
         self.by_status[expected.status as usize] += 1;
-        if expected.status == 0 && expected.values[0] == 1 {
-            self.truths += 1;
+        if expected.status == 0 && expected.values[0] != 0 {
+            self.hits += 1;
         }
     }
 
     fn never_drawn(&self) -> bool {
-        self.call.refusals().iter().any(|refusal| self.by_status[*refusal as usize] == 0)
+        self.by_status[0] == 0 || self.call.refusals().iter().any(|refusal| self.by_status[*refusal as usize] == 0)
     }
 
     pub fn failed(&self) -> bool {
@@ -59,8 +60,10 @@ impl Tally {
 impl fmt::Display for Tally {
     fn fmt(&self, f: &mut fmt::Formatter) -> fmt::Result {
         write!(f, "{:26}{:9} cases;  0: {}", self.call.name(), self.cases, self.by_status[0])?;
-        if self.call.gives() == Gives::Truth {
-            write!(f, " ({} true)", self.truths)?;
+        match self.call {
+            Call::PhysicalName | Call::LayerName | Call::MaterialNumber => write!(f, " ({} found)", self.hits)?,
+            call if call.gives().first() == Some(&Output::Truth) => write!(f, " ({} true)", self.hits)?,
+            _ => {}
         }
         for refusal in self.call.refusals() {
             write!(f, "  {refusal}: {}", self.by_status[*refusal as usize])?;
@@ -69,7 +72,7 @@ impl fmt::Display for Tally {
             write!(f, "  MISMATCHES: {}", self.mismatches)?;
         }
         if self.failed() && self.never_drawn() {
-            write!(f, "  A REFUSAL WAS NEVER DRAWN")?;
+            write!(f, "  A STATUS WAS NEVER DRAWN")?;
         }
         Ok(())
     }
@@ -89,6 +92,9 @@ impl fmt::Display for Shown<'_> {
         writeln!(f, "  parameters {:x?}", case.params)?;
         show_list(f, "xs", &case.xs)?;
         show_list(f, "ys", &case.ys)?;
+        for lent in &case.lent {
+            show_bytes(f, &lent.bytes)?;
+        }
         show_answer(f, "expected", &expected::answer(case))?;
         let said = rattle::answer(case);
         show_answer(f, "Rattle  ", &said.answer)?;
@@ -108,6 +114,16 @@ fn show_list(f: &mut fmt::Formatter, name: &str, list: &[f64]) -> fmt::Result {
         }
     }
     writeln!(f)
+}
+
+/// In rows of 32 bytes; past 4,096 only the length is shown.
+fn show_bytes(f: &mut fmt::Formatter, bytes: &[u8]) -> fmt::Result {
+    writeln!(f, "  lent: {} bytes", bytes.len())?;
+    for row in bytes.chunks(32).take_while(|_| bytes.len() <= 4096) {
+        let digits: String = row.iter().map(|byte| format!("{byte:02x}")).collect();
+        writeln!(f, "    {digits}")?;
+    }
+    Ok(())
 }
 
 fn show_answer(f: &mut fmt::Formatter, who: &str, answer: &Answer) -> fmt::Result {

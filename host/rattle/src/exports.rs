@@ -18,6 +18,7 @@ pub struct Bbox {
 
 type List = *const f64;
 type Out = *mut f64;
+type Bytes = *const u8;
 
 extern "C" {
     pub fn openrdson_polygon_signed_area(xs: List, nx: usize, ys: List, ny: usize, area: Out) -> u32;
@@ -68,4 +69,30 @@ extern "C" {
     pub fn openrdson_coordinate_in_range(x: f64) -> bool;
     pub fn openrdson_extent_in_range(x: f64) -> bool;
     pub fn openrdson_figure_in_range(x: f64) -> bool;
+
+    pub fn openrdson_check_blocks(
+        names: Bytes, n1: usize, conducting: Bytes, n2: usize, via: Bytes, n3: usize,
+        conductors: Bytes, n4: usize, diffusions: Bytes, n5: usize, vias: Bytes, n6: usize,
+    ) -> u32;
+    pub fn openrdson_look_up(
+        conducting: Bytes, n1: usize, via: Bytes, n2: usize, name: Bytes, n3: usize, found: *mut bool,
+    ) -> u32;
+    pub fn openrdson_physical_name(
+        conducting: Bytes, n1: usize, via: Bytes, n2: usize, name: Bytes, n3: usize,
+        block: *mut u32, start: *mut usize, length: *mut usize,
+    ) -> u32;
+    pub fn openrdson_layer_name(names: Bytes, n1: usize, layer: i16, start: *mut usize, length: *mut usize) -> u32;
+    pub fn openrdson_stack_layer(
+        block: Bytes, n1: usize, name: Bytes, n2: usize,
+        found: *mut bool, has_height: *mut bool, height: Out, has_thickness: *mut bool, thickness: Out,
+    ) -> u32;
+    pub fn openrdson_via_layers(
+        vias: Bytes, n1: usize, name: Bytes, n2: usize, found: *mut bool,
+        bottom_start: *mut usize, bottom_length: *mut usize, top_start: *mut usize, top_length: *mut usize,
+    ) -> u32;
+    pub fn openrdson_material_number(
+        conductors: Bytes, n1: usize, diffusions: Bytes, n2: usize, vias: Bytes, n3: usize, name: Bytes, n4: usize,
+        material: *mut u32,
+    ) -> u32;
+    pub fn openrdson_is_marker(name: Bytes, n1: usize) -> bool;
 }

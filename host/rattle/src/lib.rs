@@ -1,5 +1,6 @@
 //! The Rattle side: its C functions, and its answer to a case.
 pub mod exports;
+mod lookups;
 mod outputs;
 
 use cases::call::Call::*;
@@ -11,8 +12,8 @@ pub use outputs::Said;
 pub fn answer(case: &Case) -> Said {
     let (xs, nx, ys, ny) = (case.xs.as_ptr(), case.xs.len(), case.ys.as_ptr(), case.ys.len());
     let mut outputs = Outputs::new();
-    let [o1, o2, o3, o4] = outputs.places();
-    let truth = o1 as *mut bool;
+    let [o1, o2, o3, o4, ..] = outputs.places::<f64>();
+    let [truth, ..] = outputs.places::<bool>();
     let [a, b, c, d, e, f] = case.floats();
     let (start, count) = (case.start(), case.count());
     let x = a;
@@ -27,6 +28,10 @@ pub fn answer(case: &Case) -> Said {
             PrismVolume => openrdson_prism_volume(a, b, start, count, xs, nx, ys, ny, o1),
             BoxFootprintBbox => openrdson_box_footprint_bbox(a, b, c, d, e, f, xs, nx, ys, ny, o1, o2, o3, o4),
             PrismFootprintBbox => openrdson_prism_footprint_bbox(a, b, start, count, xs, nx, ys, ny, o1, o2, o3, o4),
+            CheckBlocks | LookUp | PhysicalName | LayerName | StackLayer | ViaLayers | MaterialNumber => {
+                lookups::status(case, &mut outputs)
+            }
+            IsMarker => return whole(openrdson_is_marker(case.name().as_ptr(), case.name().len()) as u64),
             Sqrt => return float(openrdson_sqrt(x)),
             Abs => return float(openrdson_abs(x)),
             CeilCapped => return whole(openrdson_ceil_capped(x)),

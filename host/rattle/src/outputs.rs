@@ -1,10 +1,11 @@
 //! Where a call writes its values: every second word, all filled with a pattern first.
-use cases::call::Gives;
-use cases::case::{word, Answer};
+use cases::call::Output;
+use cases::case::{word, Answer, VALUES};
 
 const PATTERN: u64 = 0xa5a5_a5a5_a5a5_a5a5;
+const WORDS: usize = 2 * VALUES + 1;
 
-pub struct Outputs([u64; 9]);
+pub struct Outputs([u64; WORDS]);
 
 /// What Rattle said, and whether it wrote where it must not: anywhere on a refusal, else beside its values.
 #[derive(Clone, Copy)]
@@ -20,31 +21,30 @@ pub fn plain(answer: Answer) -> Said {
 
 impl Outputs {
     pub fn new() -> Self {
-        Outputs([PATTERN; 9])
+        Outputs([PATTERN; WORDS])
     }
 
-    /// Places for four floats; a truth is the first byte of the first.
-    pub fn places(&mut self) -> [*mut f64; 4] {
+    /// The place of each value; one of fewer than eight bytes is the first bytes of its word.
+    pub fn places<T>(&mut self) -> [*mut T; VALUES] {
         let first = self.0.as_mut_ptr();
-        [1, 3, 5, 7].map(|place| unsafe { first.add(place) as *mut f64 })
+        std::array::from_fn(|place| unsafe { first.add(2 * place + 1) as *mut T })
     }
 
-    pub fn said(mut self, status: u32, gives: Gives) -> Said {
+    pub fn said(mut self, status: u32, gives: &[Output]) -> Said {
         let mut answer = Answer::refused(status);
         if status == 0 {
-            match gives {
-                Gives::Floats(n) => {
-                    for (i, value) in answer.values.iter_mut().enumerate().take(n) {
-                        *value = word(f64::from_bits(self.0[2 * i + 1]));
-                        self.0[2 * i + 1] = PATTERN;
-                    }
-                }
-                Gives::Truth | Gives::Whole => {
-                    answer.values[0] = self.0[1] & 0xff;
-                    self.0[1] = self.0[1] & !0xff | PATTERN & 0xff;
-                }
+            for (i, output) in gives.iter().enumerate() {
+                let written = &mut self.0[2 * i + 1];
+                let mask = match output {
+                    Output::Float | Output::Whole => u64::MAX,
+                    Output::Truth => 0xff,
+                    Output::Number => 0xffff_ffff,
+                };
+                let value = *written & mask;
+                answer.values[i] = if *output == Output::Float { word(f64::from_bits(value)) } else { value };
+                *written = *written & !mask | PATTERN & mask;
             }
         }
-        Said { answer, stray: self.0 != [PATTERN; 9] }
+        Said { answer, stray: self.0 != [PATTERN; WORDS] }
     }
 }

@@ -1,22 +1,36 @@
-//! Writes the answers of the Rust that crates/replay replays; with --check it only says whether the file is the same.
+//! Writes the expected answers that crates/replay and crates/replay_blocks replay; with --check it only says whether
+//! the files are the same.
+mod blocks;
+mod numbers;
 mod sample;
 
+use sample::Sample;
 use std::path::Path;
 use std::process::ExitCode;
 
 fn main() -> ExitCode {
-    let path = Path::new(env!("CARGO_MANIFEST_DIR")).join("../../crates/replay/stdin");
-    let sample = sample::taken();
-    if std::env::args().nth(1).as_deref() == Some("--check") {
-        if std::fs::read(&path).ok() == Some(sample.bytes) {
-            println!("crates/replay/stdin: {} recorded answers, as the Rust gives them", sample.cases);
-            return ExitCode::SUCCESS;
+    let check = std::env::args().nth(1).as_deref() == Some("--check");
+    let files = [("crates/replay/stdin", numbers::taken()), ("crates/replay_blocks/stdin", blocks::taken())];
+    let mut same = true;
+    for (name, sample) in files {
+        let path = Path::new(env!("CARGO_MANIFEST_DIR")).join("../..").join(name);
+        if check {
+            same &= is_recorded(name, &path, &sample);
+        } else {
+            std::fs::create_dir_all(path.parent().unwrap()).unwrap();
+            std::fs::write(&path, &sample.bytes).unwrap();
+            println!("{name}: {} recorded answers, {} bytes", sample.cases, sample.bytes.len());
         }
-        println!("crates/replay/stdin is not what the Rust answers: record it again");
-        return ExitCode::FAILURE;
     }
-    std::fs::create_dir_all(path.parent().unwrap()).unwrap();
-    std::fs::write(&path, &sample.bytes).unwrap();
-    println!("crates/replay/stdin: {} recorded answers, {} bytes", sample.cases, sample.bytes.len());
-    ExitCode::SUCCESS
+    if same { ExitCode::SUCCESS } else { ExitCode::FAILURE }
+}
+
+fn is_recorded(name: &str, path: &Path, sample: &Sample) -> bool {
+    let same = std::fs::read(path).is_ok_and(|bytes| bytes == sample.bytes);
+    if same {
+        println!("{name}: {} recorded answers, as expected now", sample.cases);
+    } else {
+        println!("{name} is not what is expected now: record it again");
+    }
+    same
 }
