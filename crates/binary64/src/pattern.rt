@@ -1,6 +1,20 @@
-// The number that a bit pattern stands for.
+// The infinities, and the number that a bit pattern stands for.
 ghost use mathlib.Core.Path.{_≡_};
-ghost use lib.Ieee.{binary64, ofBits};
+ghost use mathlib.Core.Bool.{true, false};
+ghost use lib.Ieee.{binary64, inf, ofBits};
+
+// As Rust's `f64::INFINITY` and `f64::NEG_INFINITY`.
+pub fn infinity() -> f64
+    ensures { λ r. ⌜ r ≡ inf false ⌝ }
+{
+    1.0 / 0.0
+}
+
+pub fn minus_infinity() -> f64
+    ensures { λ r. ⌜ r ≡ inf true ⌝ }
+{
+    -1.0 / 0.0
+}
 
 // As Rust's `f64::from_bits`; every pattern of a not-a-number gives the one of 0 / 0.
 pub fn from_bits(bits: u64) -> f64

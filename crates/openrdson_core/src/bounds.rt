@@ -28,12 +28,11 @@ impl Bbox {
     pub fn empty() -> Self
         ensures { λ r. ⌜ r ≡ spec.emptyBbox ⌝ }
     {
-        let infinity = 1.0 / 0.0;
         Self {
-            min_x: infinity,
-            min_y: infinity,
-            max_x: -infinity,
-            max_y: -infinity,
+            min_x: binary64::infinity(),
+            min_y: binary64::infinity(),
+            max_x: binary64::minus_infinity(),
+            max_y: binary64::minus_infinity(),
         }
     }
 
