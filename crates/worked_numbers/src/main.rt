@@ -4,8 +4,11 @@ use binary64::ceil_capped;
 use binary64::coordinate_in_range;
 use binary64::extent_in_range;
 use binary64::figure_in_range;
+use binary64::from_bits;
+use binary64::infinity;
 use binary64::is_within;
 use binary64::larger;
+use binary64::minus_infinity;
 use binary64::nearest_capped;
 use binary64::sqrt;
 use check::expect;
@@ -38,7 +41,18 @@ fn ranges() {
     expect(!figure_in_range(-524289.0));
 }
 
+fn patterns() {
+    expect(from_bits(0x3ff8_0000_0000_0000) == 1.5);
+    let none = from_bits(0x7ff0_0000_0000_0001);
+    expect(none != none);
+    expect(infinity() > 1.7976931348623157e308);
+    expect(infinity() == 1.0 / 0.0);
+    expect(minus_infinity() < -1.7976931348623157e308);
+    expect(minus_infinity() == -1.0 / 0.0);
+}
+
 fn main() {
+    patterns();
     sizes();
     roundings();
     ranges();
