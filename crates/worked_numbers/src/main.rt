@@ -43,8 +43,8 @@ fn ranges() {
 
 fn patterns() {
     expect(from_bits(0x3ff8_0000_0000_0000) == 1.5);
-    let none = from_bits(0x7ff0_0000_0000_0001);
-    expect(none != none);
+    let not_a_number = from_bits(0x7ff0_0000_0000_0001);
+    expect(not_a_number != not_a_number);
     expect(infinity() > 1.7976931348623157e308);
     expect(infinity() == 1.0 / 0.0);
     expect(minus_infinity() < -1.7976931348623157e308);
