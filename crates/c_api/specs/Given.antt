@@ -7,3 +7,14 @@ use Rattle.lists.specs.Answer as answer
 pub record Given {A : Type 0} (a : answer.Answer A) (r : ℕ) (old new : A) : Type 0 where
   pub status : r ≡ answer.status a
   pub value : new ≡ answer.left a old
+
+-- a refusal leaves the value as it was
+abbrev pub Kept : {A B : Type 0} → answer.Answer A → B → B → Type 0
+Kept (answer.refused n) old new = new ≡ old
+Kept (answer.given a) old new = Unit
+
+-- The answer a, given as numbers that are read by `read`, as places in what was lent: what is read there is what the call gives, and a refusal leaves the numbers as they were.
+pub record GivenAs {A B : Type 0} (read : B → A) (a : answer.Answer A) (r : ℕ) (old new : B) : Type 0 where
+  pub status : r ≡ answer.status a
+  pub value : read new ≡ answer.left a (read old)
+  pub kept : Kept a old new
