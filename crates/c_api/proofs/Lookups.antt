@@ -4,8 +4,11 @@ use mathlib.Core.Path.{_≡_, refl, ap, subst, _∙_}
 use mathlib.Core.Bool.{Bool}
 use mathlib.Core.List.{List}
 use Rattle.lists.specs.Answer as answer
+use Rattle.openrdson_core.specs.Layout.{namePartAnswer}
 use Rattle.openrdson_core.specs.Maps.{placed}
 use Rattle.openrdson_core.specs.Tech.{viaLayersAnswer}
+use Rattle.openrdson_core.specs.declared.layout.NamePart.{NamePart}
+use Rattle.openrdson_core.specs.declared.layout.NamePart.the-variants as named
 use Rattle.openrdson_core.specs.declared.maps.Span.the-variants as span
 use Rattle.openrdson_core.specs.declared.maps.NamePlace.{NamePlace}
 use Rattle.openrdson_core.specs.declared.maps.NamePlace.the-variants as place
@@ -28,6 +31,11 @@ name-read conducting via (place.Conducting start count) = refl
 name-read conducting via (place.Via start count) = refl
 name-read conducting via place.Nothing = refl
 name-read conducting via (place.Refused why) = refl
+
+pub part-read : (names : List ℕ) (p : NamePart) → answer.mapAnswer (spec.bytesAt names) (spec.partAnswer p) ≡ answer.mapAnswer spec.orEmpty (namePartAnswer names p)
+part-read names (named.Part start count) = refl
+part-read names named.Nothing = refl
+part-read names (named.Refused why) = refl
 
 pub via-read : (vias : List ℕ) (v : ViaLayers) → answer.mapAnswer (spec.viaRead vias) (spec.viaAnswer v) ≡ answer.mapAnswer spec.viaGiven (viaLayersAnswer vias v)
 via-read vias (via.Found (span.Part s n) (span.Part t m)) = refl

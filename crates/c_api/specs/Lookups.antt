@@ -9,6 +9,8 @@ use Rattle.lists.specs.Lists.{part}
 use Rattle.binary64.specs.Constants.{zero64}
 use Rattle.openrdson_core.specs.Refusals.{refusalNumber}
 use Rattle.openrdson_core.specs.Tech.{StackFigures, ViaNames}
+use Rattle.openrdson_core.specs.declared.layout.NamePart.{NamePart}
+use Rattle.openrdson_core.specs.declared.layout.NamePart.the-variants as named
 use Rattle.openrdson_core.specs.declared.maps.Span.{Span}
 use Rattle.openrdson_core.specs.declared.maps.Span.the-variants as span
 use Rattle.openrdson_core.specs.declared.maps.NamePlace.{NamePlace}
@@ -37,6 +39,11 @@ spanPlaces span.Empty = thePlaces 0 0
 abbrev pub orEmpty : Option (List ℕ) → List ℕ
 orEmpty none = []
 orEmpty (some name) = name
+
+abbrev pub partAnswer : NamePart → Answer Places
+partAnswer (named.Part start count) = given (thePlaces start count)
+partAnswer named.Nothing = given (thePlaces 0 0)
+partAnswer (named.Refused why) = refused (refusalNumber why)
 
 -- ---- a physical name: block 0 none, 1 the conducting map, 2 the via map
 

@@ -13,6 +13,7 @@ use openrdson_core::Figure;
 use openrdson_core::Judged;
 use openrdson_core::Lookup;
 use openrdson_core::Measured;
+use openrdson_core::NamePart;
 use openrdson_core::NamePlace;
 use openrdson_core::Numbered;
 use openrdson_core::Span;
@@ -120,6 +121,24 @@ pub fn give_name(answer: NamePlace, block: &mut u32, start: &mut usize, length: 
         }
         NamePlace::Nothing => {
             *block = 0;
+            *start = 0;
+            *length = 0;
+            0
+        }
+    }
+}
+
+pub fn give_part(answer: NamePart, start: &mut usize, length: &mut usize) -> u32
+    ensures { λ r. ⌜ Given (spec.partAnswer answer) r (spec.thePlaces (now (start .entry)) (now (length .entry))) (spec.thePlaces (now (start .exit)) (now (length .exit))) ⌝ }
+{
+    match answer {
+        NamePart::Refused(why) => why.number(),
+        NamePart::Part(at, count) => {
+            *start = at;
+            *length = count;
+            0
+        }
+        NamePart::Nothing => {
             *start = 0;
             *length = 0;
             0

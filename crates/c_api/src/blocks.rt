@@ -1,7 +1,7 @@
 // The calls of openrdson_core on name blocks. A name is given as a place in the block it stands in.
 ghost use mathlib.Core.Path.{_≡_};
 ghost use Rattle.lists.specs.Answer.{status, mapAnswer};
-ghost use Rattle.openrdson_core.specs.Layout.{isMarker};
+ghost use Rattle.openrdson_core.specs.Layout.{isMarker, layerName};
 ghost use Rattle.openrdson_core.specs.Maps.{lookup, isSome};
 ghost use Rattle.openrdson_core.specs.Tech.{blocksFault, materialNumber, stackLayer, viaLayers};
 ghost use Rattle.c_api.specs.Given.{Given, GivenAs};
@@ -11,6 +11,7 @@ use crate::answers::give_found;
 use crate::answers::give_layer;
 use crate::answers::give_material;
 use crate::answers::give_name;
+use crate::answers::give_part;
 use crate::answers::give_via;
 
 #[no_mangle]
@@ -123,4 +124,16 @@ pub extern "C" fn openrdson_via_layers(
         top_start,
         top_length,
     )
+}
+
+#[no_mangle]
+pub extern "C" fn openrdson_layer_name(
+    names: &[u8],
+    layer: i16,
+    start: &mut usize,
+    length: &mut usize,
+) -> u32
+    ensures { λ r. ⌜ GivenAs (spec.bytesAt (now (names .entry))) (mapAnswer spec.orEmpty (layerName (now (names .entry)) layer)) r (spec.thePlaces (now (start .entry)) (now (length .entry))) (spec.thePlaces (now (start .exit)) (now (length .exit))) ⌝ }
+{
+    give_part(openrdson_core::layer_name(names, layer), start, length)
 }
