@@ -1,9 +1,11 @@
 -- What the lookups give back through references: names as places in the lent blocks, and the figures of a stack layer.
-use Prim.Native.Nat.{ℕ, zero, suc}
+use Prim.Native.Nat.{ℕ, zero, suc, _+_, _≤_}
+use mathlib.Core.Path.{_≡_}
 use mathlib.Core.Bool.{Bool, true, false}
 use mathlib.Core.List.{List, []}
 use mathlib.Core.Option.{Option, some, none}
 use lib.Ieee.{Float}
+use lib.ListN as lists
 use Rattle.lists.specs.Answer.{Answer, refused, given}
 use Rattle.lists.specs.Lists.{part}
 use Rattle.binary64.specs.Constants.{zero64}
@@ -31,6 +33,10 @@ thePlaces s n = record { start = s; length = n }
 abbrev pub bytesAt : List ℕ → Places → List ℕ
 bytesAt block p = part (p .start) (p .length) block
 
+-- and that they all lie in the block
+abbrev pub placesIn : List ℕ → Places → Type 0
+placesIn block p = p .start + p .length ≤ lists.length block
+
 abbrev pub spanPlaces : Span → Places
 spanPlaces (span.Part start count) = thePlaces start count
 spanPlaces span.Empty = thePlaces 0 0
@@ -54,7 +60,7 @@ pub record NameAt : Type 0 where
 abbrev pub theName : ℕ → ℕ → ℕ → NameAt
 theName b s n = record { block = b; places = thePlaces s n }
 
--- the name that a block's number and places say; there is no block 3, and no name is empty
+-- the name that a block's number and places say
 abbrev pub nameIn : List ℕ → List ℕ → ℕ → Places → Option (List ℕ)
 nameIn conducting via zero p = none
 nameIn conducting via (suc zero) p = some (bytesAt conducting p)
@@ -63,6 +69,16 @@ nameIn conducting via (suc (suc (suc n))) p = some []
 
 abbrev pub nameRead : List ℕ → List ℕ → NameAt → Option (List ℕ)
 nameRead conducting via a = nameIn conducting via (a .block) (a .places)
+
+-- the places lie in their block, all numbers are 0 for none, and there is no block 3
+abbrev pub blockIn : List ℕ → List ℕ → ℕ → Places → Type 0
+blockIn conducting via zero p = p ≡ thePlaces 0 0
+blockIn conducting via (suc zero) p = placesIn conducting p
+blockIn conducting via (suc (suc zero)) p = placesIn via p
+blockIn conducting via (suc (suc (suc n))) p = ⊥
+
+abbrev pub nameInside : List ℕ → List ℕ → NameAt → Type 0
+nameInside conducting via a = blockIn conducting via (a .block) (a .places)
 
 abbrev pub nameAnswer : NamePlace → Answer NameAt
 nameAnswer (place.Conducting start count) = given (theName 1 start count)
@@ -112,6 +128,10 @@ pub record ViaRead : Type 0 where
 
 abbrev pub viaRead : List ℕ → ViaAt → ViaRead
 viaRead vias v = record { found = v .found; bottom = bytesAt vias (v .bottom); top = bytesAt vias (v .top) }
+
+-- the places lie in the block
+abbrev pub viaInside : List ℕ → ViaAt → Type 0
+viaInside vias v = placesIn vias (v .bottom) × placesIn vias (v .top)
 
 -- the names of a via, empty where there is none
 abbrev pub viaGiven : Option ViaNames → ViaRead
