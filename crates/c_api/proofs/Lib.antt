@@ -1,2 +1,3 @@
 -- Laws of the definitions, cited by this crate's proofs.
 pub mod Same
+pub mod Lookups

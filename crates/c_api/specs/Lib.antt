@@ -1,2 +1,3 @@
 -- What an exported call gives back.
 pub mod Given
+pub mod Lookups
