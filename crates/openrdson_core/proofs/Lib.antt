@@ -2,6 +2,7 @@
 pub mod Rings
 pub mod ByteLaws
 pub mod BlockLaws
+pub mod LayoutLaws
 pub mod MapLaws
 pub mod Areas
 pub mod Corners

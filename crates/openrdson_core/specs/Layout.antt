@@ -1,15 +1,19 @@
 -- The layout: the logical name of a layer number, and the marker rule.
-use Prim.Native.Nat.{ℕ, _-_}
+use Prim.Native.Nat.{ℕ, _+_, _-_, _≤_}
 use mathlib.Core.Bool.{Bool, _||_}
 use mathlib.Core.List.{List, [], _∷_}
-use mathlib.Core.Option.{Option}
+use mathlib.Core.Option.{Option, some, none}
 use lib.Dec.{eqb}
 use lib.IntN.{ℤ, pos, negsuc}
-use Rattle.lists.specs.Answer.{Answer, given, unless}
-use Rattle.lists.specs.Lists.{first}
+use lib.ListN.{length}
+use Rattle.lists.specs.Answer.{Answer, refused, given, unless}
+use Rattle.lists.specs.Lists.{part, first}
+use Rattle.openrdson_core.specs.Refusals.{refusalNumber}
 use Rattle.openrdson_core.specs.Bytes.{unpad, little, startsWith, contains}
 use Rattle.openrdson_core.specs.Blocks.{count, keyAt, valueAt, layerNamesOk, mapOption}
 use Rattle.openrdson_core.specs.declared.blocks.Cell.the-variants.{Number, Name}
+use Rattle.openrdson_core.specs.declared.layout.NamePart.{NamePart}
+use Rattle.openrdson_core.specs.declared.layout.NamePart.the-variants as named
 
 -- a layer number's two bytes, as a number: its two's complement
 abbrev pub patternOf : ℤ → ℕ
@@ -26,6 +30,17 @@ nameOfLayer s layer = mapOption unpad (mapOption (valueAt Number Name s) (rowOfP
 
 unfoldable pub layerName : List ℕ → ℤ → Answer (Option (List ℕ))
 layerName s layer = unless (layerNamesOk s) 14 (given (nameOfLayer s layer))
+
+-- the part that an enum names, and that it lies in the block
+abbrev pub namePartAnswer : List ℕ → NamePart → Answer (Option (List ℕ))
+namePartAnswer s (named.Part start n) = given (some (part start n s))
+namePartAnswer s named.Nothing = given none
+namePartAnswer s (named.Refused why) = refused (refusalNumber why)
+
+abbrev pub namePartWithin : List ℕ → NamePart → Type 0
+namePartWithin s (named.Part start n) = start + n ≤ length s
+namePartWithin s named.Nothing = Unit
+namePartWithin s (named.Refused why) = Unit
 
 -- ---- markers: `seed_`, `BLOCK_`, `_prop`, `marker` and `drawing` in ASCII
 

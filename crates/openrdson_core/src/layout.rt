@@ -2,6 +2,7 @@
 ghost use mathlib.Core.Path.{_≡_};
 ghost use mathlib.Core.Bool.{true};
 ghost use Rattle.openrdson_core.specs.Blocks.{layerNamesOk};
+ghost use Rattle.openrdson_core.specs.Maps.{spanned, spanWithin};
 ghost use Rattle.openrdson_core.specs.Answers.{rowAnswer};
 ghost use Rattle.openrdson_core.specs.Layout as spec;
 use crate::blocks::Cell;
@@ -10,7 +11,17 @@ use crate::blocks::is_block;
 use crate::blocks::rows;
 use crate::bytes::contains;
 use crate::bytes::little;
+use crate::bytes::name_length;
 use crate::bytes::starts_with;
+use crate::maps::Span;
+use crate::refusals::Refusal;
+
+// A part of the layer-name block, or why it is not read.
+pub enum NamePart {
+    Part(usize, usize),
+    Nothing,
+    Refused(Refusal),
+}
 
 // A layer-name block.
 pub fn is_layer_names(s: &[u8]) -> bool
@@ -19,8 +30,20 @@ pub fn is_layer_names(s: &[u8]) -> bool
     is_block(s, Cell::Number, Cell::Name, true)
 }
 
+// The two bytes of a layer number, as a number.
+fn pattern(layer: i16) -> u64
+    ensures { λ r. ⌜ r ≡ spec.patternOf layer ⌝ }
+{
+    if layer < 0 {
+        let below = -1 - layer;
+        let far = below as u64;
+        return 65535 - far;
+    }
+    layer as u64
+}
+
 // The first row whose key has these bytes. For a block that has been checked.
-pub fn find_pattern(s: &[u8], bits: u64) -> Row
+fn find_pattern(s: &[u8], bits: u64) -> Row
     requires { ⌜ layerNamesOk (now s) ≡ true ⌝ }
     ensures { λ r. ⌜ rowAnswer r ≡ spec.rowOfPattern (now (s .entry)) bits ⌝ }
 {
@@ -35,6 +58,36 @@ pub fn find_pattern(s: &[u8], bits: u64) -> Row
         i += 1;
     }
     Row::Nowhere
+}
+
+// The part of the block that is a layer's logical name. For a block that has been checked.
+pub fn find_layer_name(s: &[u8], layer: i16) -> Span
+    requires { ⌜ layerNamesOk (now s) ≡ true ⌝ }
+    ensures { λ r. ⌜ (spanned (now (s .entry)) r ≡ spec.nameOfLayer (now (s .entry)) layer) × spanWithin (now (s .entry)) r ⌝ }
+{
+    let n = rows(s);
+    let found = find_pattern(s, pattern(layer));
+    match found {
+        Row::Nowhere => Span::Empty,
+        Row::At(i) => {
+            let start = 2 + n * 2 + i * 32;
+            Span::Part(start, name_length(&s[start..start + 32]))
+        }
+    }
+}
+
+// Where a layer's logical name stands; 14.
+pub fn layer_name(s: &[u8], layer: i16) -> NamePart
+    ensures { λ r. ⌜ (spec.namePartAnswer (now (s .entry)) r ≡ spec.layerName (now (s .entry)) layer) × spec.namePartWithin (now (s .entry)) r ⌝ }
+{
+    if !is_layer_names(s) {
+        return NamePart::Refused(Refusal::BlockDamaged);
+    }
+    let found = find_layer_name(s, layer);
+    match found {
+        Span::Part(start, count) => NamePart::Part(start, count),
+        Span::Empty => NamePart::Nothing,
+    }
 }
 
 // Whether a logical name is a marker's: such layers have no geometry.
