@@ -10,5 +10,7 @@ pub use words::bits;
 pub use words::complement;
 pub use words::float_at;
 pub use words::floats_at;
+pub use words::is_short;
 pub use words::narrow;
+pub use words::short;
 pub use words::word;

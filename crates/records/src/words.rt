@@ -53,6 +53,24 @@ pub fn complement(n: i64) -> u64 {
     18446744073709551615 - m as u64
 }
 
+// Whether n is the two's complement of an i16.
+pub fn is_short(n: u64) -> bool {
+    (n < 32768) | (n > 18446744073709518847)
+}
+
+// The i16 of a two's complement, and 0 where n is none.
+pub fn short(n: u64) -> i16 {
+    if n < 32768 {
+        return n as i16;
+    }
+    let m = 18446744073709551615 - n;
+    if m < 32768 {
+        let k = m as i16;
+        return !k;
+    }
+    0
+}
+
 // n, or the largest u32 where n is above it.
 pub fn narrow(n: u64) -> u32 {
     if n > 4294967295 {

@@ -3,6 +3,7 @@ ghost use Prim.Native.Nat.{_≤_};
 use openrdson_core::Check;
 use openrdson_core::Figure;
 use openrdson_core::Lookup;
+use openrdson_core::NamePart;
 use openrdson_core::NamePlace;
 use openrdson_core::Numbered;
 use openrdson_core::Span;
@@ -126,6 +127,14 @@ impl Answer {
         Self::given(block, start as u64, count as u64, 0, 0)
     }
 
+    // A part of a block of n bytes.
+    fn span(n: usize, start: usize, count: usize) -> Self {
+        if !is_within(n, start, count) {
+            return Self::outside();
+        }
+        Self::given(start as u64, count as u64, 0, 0, 0)
+    }
+
     // A name in a conducting map of m bytes or in a via map of n bytes.
     pub fn named(given: NamePlace, m: usize, n: usize) -> Self {
         match given {
@@ -133,6 +142,15 @@ impl Answer {
             NamePlace::Conducting(start, count) => Self::part(1, m, start, count),
             NamePlace::Via(start, count) => Self::part(2, n, start, count),
             NamePlace::Nothing => Self::whole(0),
+        }
+    }
+
+    // A layer's name in a block of n bytes.
+    pub fn layer_named(given: NamePart, n: usize) -> Self {
+        match given {
+            NamePart::Refused(why) => Self::refused(why.number() as u64),
+            NamePart::Part(start, count) => Self::span(n, start, count),
+            NamePart::Nothing => Self::whole(0),
         }
     }
 

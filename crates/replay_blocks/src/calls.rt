@@ -1,6 +1,8 @@
 // The calls, on what a record gives them.
 use crate::answers::Answer;
 use crate::slices::slice;
+use records::short;
+use records::word;
 
 // How many slices a call takes.
 pub fn slices_of(call: u64) -> usize {
@@ -40,6 +42,12 @@ fn name_place(record: &[u8]) -> Answer {
     Answer::named(place, conducting.len(), via.len())
 }
 
+fn layer_name(record: &[u8]) -> Answer {
+    let names = slice(record, 1);
+    let given = openrdson_core::layer_name(names, short(word(record, 8)));
+    Answer::layer_named(given, names.len())
+}
+
 fn stack_layer(record: &[u8]) -> Answer {
     Answer::of_stack(openrdson_core::stack_layer(slice(record, 1), slice(record, 2)))
 }
@@ -64,12 +72,13 @@ fn is_marker(record: &[u8]) -> Answer {
     Answer::whole(openrdson_core::is_marker(slice(record, 1)) as u64)
 }
 
-// The answer of a call other than 17.
+// The answer of a call.
 pub fn answer(call: u64, record: &[u8]) -> Answer {
     match call {
         14 => check_blocks(record),
         15 => look_up(record),
         16 => name_place(record),
+        17 => layer_name(record),
         18 => stack_layer(record),
         19 => via_layers(record),
         20 => material_number(record),

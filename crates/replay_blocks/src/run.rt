@@ -8,9 +8,19 @@ use crate::slices::answer_place;
 use crate::slices::are_lengths_in;
 use crate::slices::size_of;
 use records::count;
+use records::is_short;
 use records::word;
 
-// Whether nothing is wrong with the record: its call, its slices' lengths and its size.
+// Whether the layer's number is an i16 for call 17, and 0 for the others.
+fn is_layer_in(record: &[u8], call: u64) -> bool {
+    let layer = word(record, 8);
+    if call == 17 {
+        return is_short(layer);
+    }
+    layer == 0
+}
+
+// Whether nothing is wrong with the record: its call, its slices' lengths, its layer's number and its size.
 fn is_whole(record: &[u8]) -> bool {
     let call = word(record, 0);
     if (call < 14) | (call > 21) {
@@ -19,12 +29,10 @@ fn is_whole(record: &[u8]) -> bool {
     if !are_lengths_in(record, slices_of(call)) {
         return false;
     }
+    if !is_layer_in(record, call) {
+        return false;
+    }
     record.len() == size_of(record)
-}
-
-// Whether the record's call is not replayed yet: `layer_name`.
-fn is_skipped(record: &[u8]) -> bool {
-    word(record, 0) == 17
 }
 
 // Whether the call answers what the record says.
@@ -55,7 +63,7 @@ fn replay_record(record: &[u8], cases: &mut [u64], mismatches: &mut [u64]) -> bo
     }
     let place = place_of(record);
     count(cases, place);
-    if !is_skipped(record) && !is_answered(record) {
+    if !is_answered(record) {
         count(mismatches, place);
     }
     true
