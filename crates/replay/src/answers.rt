@@ -1,10 +1,10 @@
 // A call's answer in the words of the file.
 ghost use Prim.Native.Nat.{_≤_};
-use crate::words::bits;
-use crate::words::word;
 use openrdson_core::Bounded;
 use openrdson_core::Judged;
 use openrdson_core::Measured;
+use records::bits;
+use records::word;
 
 // 0 or the refusal's number, and four values, 0 where unused.
 pub struct Answer {

@@ -1,11 +1,11 @@
 // The calls, on what a record gives them.
 use crate::answers::Answer;
-use crate::words::complement;
-use crate::words::float_at;
-use crate::words::narrow;
-use crate::words::word;
 use openrdson_core::Bbox;
 use openrdson_core::Solid;
+use records::complement;
+use records::float_at;
+use records::narrow;
+use records::word;
 
 // Calls 1 to 5, on a ring.
 fn of_ring(call: u64, xs: &[f64], ys: &[f64]) -> Answer {

@@ -1,13 +1,12 @@
 // Replays recorded answers of the original Rust on the proved calls, and says how many differ, bit for bit.
 mod answers;
 mod calls;
-mod records;
 mod report;
-mod words;
+mod run;
 
 fn main() {
     let mut cases = [0u64; 14];
     let mut mismatches = [0u64; 14];
-    records::replay(&mut cases, &mut mismatches);
+    run::replay(&mut cases, &mut mismatches);
     report::print_report(&cases, &mismatches);
 }

@@ -1,32 +1,7 @@
 // The report: a line for each call, and one for all.
-ghost use Prim.Native.Nat.{_<_};
-ghost use lib.ListN.{length};
-
-fn total(list: &[u64]) -> u64 {
-    let mut sum = 0u64;
-    let mut i = 0;
-    while i < list.len() {
-        sum = std::num::wrapping_add_u64(sum, list[i]);
-        i += 1;
-    }
-    sum
-}
-
-fn print_counts(cases: u64, mismatches: u64) {
-    io::print_decimal(1, cases);
-    io::write_all(1, b" cases ");
-    io::print_decimal(1, mismatches);
-    io::write_all(1, b" mismatches\n");
-}
-
-// The line of a call, whose counts stand at place i.
-fn print_call(name: &[u8], cases: &[u64], mismatches: &[u64], i: usize)
-    requires { ⌜ (i < length (now cases)) × (i < length (now mismatches)) ⌝ }
-{
-    io::write_all(1, name);
-    io::write_all(1, b" ");
-    print_counts(cases[i], mismatches[i]);
-}
+use records::print_call;
+use records::print_counts;
+use records::total;
 
 fn print_ring_calls(cases: &[u64; 14], mismatches: &[u64; 14]) {
     print_call(b"polygon_signed_area", cases, mismatches, 1);

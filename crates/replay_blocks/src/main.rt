@@ -1,0 +1,13 @@
+// Replays recorded answers of the host's blocks and lookups on the proved calls, and says how many differ, bit for bit.
+mod answers;
+mod calls;
+mod report;
+mod run;
+mod slices;
+
+fn main() {
+    let mut cases = [0u64; 9];
+    let mut mismatches = [0u64; 9];
+    run::replay(&mut cases, &mut mismatches);
+    report::print_report(&cases, &mismatches);
+}
