@@ -1,11 +1,14 @@
 // Each call's answer compared with what is expected of it: for the programs of worked shapes.
 mod answers;
+mod kinds;
 mod rings;
 mod solids;
 
 pub use answers::box_is;
 pub use answers::check_refused;
 pub use answers::point_is;
+pub use kinds::kind_is;
+pub use kinds::kind_unknown;
 pub use rings::area_is;
 pub use rings::area_refused;
 pub use rings::bounds_are;
