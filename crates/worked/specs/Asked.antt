@@ -9,6 +9,7 @@ use Rattle.openrdson_core.specs.declared.points.Point.{Point}
 use Rattle.openrdson_core.specs.declared.bounds.Bbox.{Bbox}
 use Rattle.openrdson_core.specs.declared.mesh.ElementType.{ElementType}
 use Rattle.openrdson_core.specs.Mesh.{kindNumber}
+use Rattle.openrdson_core.specs.Tech.{StackFigures}
 
 -- equal coordinates, equal bounds
 abbrev pub samePoint : Point → Point → Bool
@@ -41,3 +42,22 @@ isKind (some t) n = eqb (kindNumber t) n
 abbrev pub isNone : {A : Type 0} → Option A → Bool
 isNone none = true
 isNone (some a) = false
+
+-- the answer is this natural number, anything at all
+abbrev pub isNatural : Answer ℕ → ℕ → Bool
+isNatural (refused n) m = false
+isNatural (given k) m = eqb k m
+
+abbrev pub isGiven : {A : Type 0} → Answer A → Bool
+isGiven (refused n) = false
+isGiven (given a) = true
+
+-- a figure that is present and is x; a stack layer whose height is x and whose thickness is absent
+abbrev pub isFigure : Option Float → Float → Bool
+isFigure none x = false
+isFigure (some y) x = eq y x
+
+abbrev pub isHeight : Answer (Option StackFigures) → Float → Bool
+isHeight (refused n) x = false
+isHeight (given none) x = false
+isHeight (given (some f)) x = isFigure (f .height) x && isNone (f .thickness)
