@@ -9,6 +9,27 @@ use borrow.Author.Needs.{needs}
 use Rattle.worked_blocks.proofs.lookups.Statement.{statement}
 use Rattle.worked_blocks.proofs.lookups.Tie as tie
 
+array-write-first : tie.Need-array-write-first
+array-write-first c = search needs
+
+array-write-first-2 : tie.Need-array-write-first-2
+array-write-first-2 c = search needs
+
+array-write-first-3 : tie.Need-array-write-first-3
+array-write-first-3 c = search needs
+
+array-write-second : tie.Need-array-write-second
+array-write-second c = search needs
+
+array-write-second-2 : tie.Need-array-write-second-2
+array-write-second-2 c = search needs
+
+array-write-second-3 : tie.Need-array-write-second-3
+array-write-second-3 c = search needs
+
+array-write-second-4 : tie.Need-array-write-second-4
+array-write-second-4 c = search needs
+
 slice-aggregate-look-up : tie.Need-slice-aggregate-look-up
 slice-aggregate-look-up c = search needs
 
@@ -124,6 +145,13 @@ pub lookups-spec : {M : Type 1} → statement M
 lookups-spec =
     tie.close
     (tie.spec
+    array-write-first
+    array-write-first-2
+    array-write-first-3
+    array-write-second
+    array-write-second-2
+    array-write-second-3
+    array-write-second-4
     slice-aggregate-look-up
     slice-aggregate-look-up-2
     slice-aggregate-look-up-3

@@ -9,6 +9,45 @@ use borrow.Author.Needs.{needs}
 use Rattle.worked_blocks.proofs.stacks.Statement.{statement}
 use Rattle.worked_blocks.proofs.stacks.Tie as tie
 
+array-write-stack : tie.Need-array-write-stack
+array-write-stack c = search needs
+
+array-write-stack-2 : tie.Need-array-write-stack-2
+array-write-stack-2 c = search needs
+
+array-write-stack-3 : tie.Need-array-write-stack-3
+array-write-stack-3 c = search needs
+
+array-write-stack-4 : tie.Need-array-write-stack-4
+array-write-stack-4 c = search needs
+
+array-write-stack-5 : tie.Need-array-write-stack-5
+array-write-stack-5 c = search needs
+
+array-write-endless : tie.Need-array-write-endless
+array-write-endless c = search needs
+
+array-write-endless-2 : tie.Need-array-write-endless-2
+array-write-endless-2 c = search needs
+
+array-write-endless-3 : tie.Need-array-write-endless-3
+array-write-endless-3 c = search needs
+
+array-write-endless-4 : tie.Need-array-write-endless-4
+array-write-endless-4 c = search needs
+
+array-write-endless-5 : tie.Need-array-write-endless-5
+array-write-endless-5 c = search needs
+
+array-write-flagged : tie.Need-array-write-flagged
+array-write-flagged c = search needs
+
+array-write-flagged-2 : tie.Need-array-write-flagged-2
+array-write-flagged-2 c = search needs
+
+array-write-flagged-3 : tie.Need-array-write-flagged-3
+array-write-flagged-3 c = search needs
+
 slice-aggregate-material-number : tie.Need-slice-aggregate-material-number
 slice-aggregate-material-number c = search needs
 
@@ -130,6 +169,19 @@ pub stacks-spec : {M : Type 1} → statement M
 stacks-spec =
     tie.close
     (tie.spec
+    array-write-stack
+    array-write-stack-2
+    array-write-stack-3
+    array-write-stack-4
+    array-write-stack-5
+    array-write-endless
+    array-write-endless-2
+    array-write-endless-3
+    array-write-endless-4
+    array-write-endless-5
+    array-write-flagged
+    array-write-flagged-2
+    array-write-flagged-3
     slice-aggregate-material-number
     slice-aggregate-material-number-2
     slice-aggregate-material-number-3
