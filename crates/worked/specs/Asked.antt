@@ -1,11 +1,15 @@
--- What the checks ask of an answer: is it this number, this verdict, these bounds, this refusal?
+-- What the checks ask of an answer: is it this number, this verdict, these bounds, this kind, this refusal?
 use Prim.Native.Nat.{ℕ}
 use mathlib.Core.Bool.{Bool, true, false, _&&_, Bool·beq}
+use mathlib.Core.Option.{Option, some, none}
 use lib.Dec.{eqb}
 use lib.Ieee.{Float, eq}
 use Rattle.lists.specs.Answer.{Answer, refused, given}
 use Rattle.openrdson_core.specs.declared.points.Point.{Point}
 use Rattle.openrdson_core.specs.declared.bounds.Bbox.{Bbox}
+use Rattle.openrdson_core.specs.declared.mesh.ElementType.{ElementType}
+use Rattle.openrdson_core.specs.Mesh.{kindNumber}
+use Rattle.openrdson_core.specs.Tech.{StackFigures}
 
 -- equal coordinates, equal bounds
 abbrev pub samePoint : Point → Point → Bool
@@ -29,3 +33,31 @@ isBox (given a) b = sameBox a b
 abbrev pub isRefused : {A : Type 0} → Answer A → ℕ → Bool
 isRefused (refused m) n = eqb m n
 isRefused (given a) n = false
+
+-- the kind with this number, no kind
+abbrev pub isKind : Option ElementType → ℕ → Bool
+isKind none n = false
+isKind (some t) n = eqb (kindNumber t) n
+
+abbrev pub isNone : {A : Type 0} → Option A → Bool
+isNone none = true
+isNone (some a) = false
+
+-- the answer is this natural number, anything at all
+abbrev pub isNatural : Answer ℕ → ℕ → Bool
+isNatural (refused n) m = false
+isNatural (given k) m = eqb k m
+
+abbrev pub isGiven : {A : Type 0} → Answer A → Bool
+isGiven (refused n) = false
+isGiven (given a) = true
+
+-- a figure that is present and is x; a stack layer whose height is x and whose thickness is absent
+abbrev pub isFigure : Option Float → Float → Bool
+isFigure none x = false
+isFigure (some y) x = eq y x
+
+abbrev pub isHeight : Answer (Option StackFigures) → Float → Bool
+isHeight (refused n) x = false
+isHeight (given none) x = false
+isHeight (given (some f)) x = isFigure (f .height) x && isNone (f .thickness)

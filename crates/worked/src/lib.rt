@@ -1,11 +1,22 @@
 // Each call's answer compared with what is expected of it: for the programs of worked shapes.
 mod answers;
+mod kinds;
+mod names;
 mod rings;
 mod solids;
 
 pub use answers::box_is;
 pub use answers::check_refused;
 pub use answers::point_is;
+pub use kinds::kind_is;
+pub use kinds::kind_unknown;
+pub use names::check_fine;
+pub use names::height_is;
+pub use names::is_found;
+pub use names::is_material;
+pub use names::layer_refused;
+pub use names::lookup_refused;
+pub use names::material_refused;
 pub use rings::area_is;
 pub use rings::area_refused;
 pub use rings::bounds_are;
