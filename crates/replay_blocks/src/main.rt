@@ -1,4 +1,4 @@
-// Replays recorded answers of the host's blocks and lookups on the proved calls, and says how many differ, bit for bit.
+// Replays recorded answers about name blocks on the proved calls, and says how many differ, bit for bit.
 mod answers;
 mod calls;
 mod report;
