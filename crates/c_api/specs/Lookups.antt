@@ -5,7 +5,7 @@ use mathlib.Core.Bool.{Bool, true, false}
 use mathlib.Core.List.{List, []}
 use mathlib.Core.Option.{Option, some, none}
 use lib.Ieee.{Float}
-use lib.ListN as lists
+use lib.ListN.{length}
 use Rattle.lists.specs.Answer.{Answer, refused, given}
 use Rattle.lists.specs.Lists.{part}
 use Rattle.binary64.specs.Constants.{zero64}
@@ -20,22 +20,22 @@ use Rattle.openrdson_core.specs.declared.maps.NamePlace.the-variants as place
 use Rattle.openrdson_core.specs.declared.tech.ViaLayers.{ViaLayers}
 use Rattle.openrdson_core.specs.declared.tech.ViaLayers.the-variants as via
 
--- ---- a part of a block: a start and a length, both 0 for none
+-- ---- a part of a block: a start and a count, both 0 for none
 
 pub record Places : Type 0 where
   pub start : ℕ
-  pub length : ℕ
+  pub count : ℕ
 
 abbrev pub thePlaces : ℕ → ℕ → Places
-thePlaces s n = record { start = s; length = n }
+thePlaces s n = record { start = s; count = n }
 
 -- the bytes there
 abbrev pub bytesAt : List ℕ → Places → List ℕ
-bytesAt block p = part (p .start) (p .length) block
+bytesAt block p = part (p .start) (p .count) block
 
 -- and that they all lie in the block
 abbrev pub placesIn : List ℕ → Places → Type 0
-placesIn block p = p .start + p .length ≤ lists.length block
+placesIn block p = p .start + p .count ≤ length block
 
 abbrev pub spanPlaces : Span → Places
 spanPlaces (span.Part start count) = thePlaces start count

@@ -20,6 +20,7 @@ use openrdson_core::Span;
 use openrdson_core::StackLayer;
 use openrdson_core::ViaLayers;
 
+// The status of a check, a number, a truth and so on: one function a kind of answer.
 pub fn give_check(answer: Check) -> u32
     ensures { λ r. ⌜ r ≡ status (checkAnswer answer) ⌝ }
 {
