@@ -1,6 +1,6 @@
 -- `lookups` meets its contract: each check is true by the contracts, computed. Assumes nothing.
-use Rattle.lists.specs.Lists.{allBelow, anyBelow, first}
-use Rattle.openrdson_core.specs.Bytes.{same, zeros, nameLength, nameOk, little, startsWith, contains}
+use Rattle.lists.specs.Lists.{allBelow, first}
+use Rattle.openrdson_core.specs.Bytes.{same, zeros, nameLength, nameOk, little}
 use Rattle.openrdson_core.specs.Blocks.{figuresOk, nameOrNone, blockOk, rowOf}
 use Rattle.openrdson_core.specs.Maps.{lookup}
 use mathlib.Core.Path.{ap}

@@ -1,6 +1,6 @@
 -- `markers` meets its contract: each check is true by the contracts, computed. Assumes nothing.
-use Rattle.lists.specs.Lists.{allBelow, anyBelow, first}
-use Rattle.openrdson_core.specs.Bytes.{same, zeros, nameLength, nameOk, little, startsWith, contains}
+use Rattle.lists.specs.Lists.{allBelow, anyBelow}
+use Rattle.openrdson_core.specs.Bytes.{startsWith, contains}
 use Rattle.openrdson_core.specs.Layout.{isMarker}
 use borrow.Author.Needs.{needs}
 use Rattle.worked_blocks.proofs.markers.Statement.{statement}
