@@ -3,9 +3,7 @@ use mathlib.Core.Path.{_≡_, refl, sym, ap, _∙_}
 use mathlib.Core.List.{List}
 use mathlib.Core.Option.{Option, some, none}
 use Prim.Native.Nat.{ℕ, _+_, _*_, _-_, _≤_}
-use lib.ListN.{length, take, drop}
 use Rattle.lists.specs.Lists.{part}
-use Rattle.lists.proofs.Parts.{part-lent}
 use Rattle.openrdson_core.specs.Bytes.{unpad, nameLength}
 use Rattle.openrdson_core.specs.Blocks.{widthOf, count, valueAt, mapOption}
 use Rattle.openrdson_core.specs.declared.blocks.Cell.{Cell}
@@ -17,10 +15,9 @@ module _ (k : Cell) (s : List ℕ) (row : Option ℕ) where
   name-none e = ap (λ (o : Option ℕ). mapOption unpad (mapOption (valueAt k Name s) o)) e
 
   -- row i, whose value starts at `start` and has a name of `n` bytes
-  pub name-some : (i start n : ℕ) → some i ≡ row → start ≡ 2 + count s * widthOf k + i * 32 → n ≡ nameLength (take (start + 32 - start) (drop start s)) → n ≤ 32
+  pub name-some : (i start n : ℕ) → some i ≡ row → start ≡ 2 + count s * widthOf k + i * 32 → n ≡ nameLength (part start 32 s) → n ≤ 32
       → some (part start n s) ≡ mapOption unpad (mapOption (valueAt k Name s) row)
-  name-some i start n e at len few =
-      let long : n ≡ nameLength (part start 32 s) = len ∙ ap nameLength (part-lent s start 32) in
+  name-some i start n e at long few =
       ap (λ (l : ℕ). some (part start l s)) long
       ∙ ap some (sym (unpad-part s start (rw (← long) few)))
       ∙ ap (λ (l : ℕ). some (unpad (part l 32 s))) at

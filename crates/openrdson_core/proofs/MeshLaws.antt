@@ -6,10 +6,10 @@ use mathlib.Core.Option.{some, none}
 use Prim.Native.Nat.{ℕ, _+_, _*_, _/_, _%_, _<_, _≤_}
 use native.Mathlib.Omega.{arith}
 use lib.Dec.{eqb, leb, ltb}
-use lib.ListN.{length, drop, getD}
-use lib.Seq.{getD-take, getD-drop}
+use lib.ListN.{length, getD}
 use borrow.Author.Tests.{eq-eqb, ne-eqb, eqb-true, lt-ltb, le-ltb, ltb-true, leb-true}
 use Rattle.lists.specs.Lists.{allBelow}
+use Rattle.lists.proofs.Parts.{part-at}
 use Rattle.lists.proofs.Scans.{all-start, all-from, all-more, all-fails, all-at}
 use Rattle.openrdson_core.specs.Mesh.{Mesh, unused, kindNumber, nodeCount, kindOf, parallelLengths, parallel, withinLengths, within, fits, restUnused, firstBelow, soundElement, insideElement, validElement, kindAt, placesOf, usedOf, kindOk, unusedOk, usedBelow, elementOk, wellFormed}
 use Rattle.openrdson_core.specs.declared.mesh.ElementType.{ElementType}
@@ -178,7 +178,7 @@ used-below c m h e l i k = place-below (c .nodes) (placesOf m e) (usedOf m e) (w
 
 -- its place i is entry 8 e + i of the list of places
 pub place-at : (m : Mesh) (e i : ℕ) → i < 8 → getD (placesOf m e) i 0 ≡ getD (m .places) (8 * e + i) 0
-place-at m e i l = getD-take 8 (drop (8 * e) (m .places)) i 0 l ∙ getD-drop (8 * e) (m .places) i 0
+place-at m e i l = part-at (m .places) (8 * e) 8 i 0 l
 
 -- its places are within the list of places
 pub places-within : (m : Mesh) (e : ℕ) → parallel m ≡ true → e < length (m .kinds) → 8 * e + 8 ≤ length (m .places)

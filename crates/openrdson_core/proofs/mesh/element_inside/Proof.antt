@@ -3,10 +3,9 @@ use Prim.Native.Nat.{_*_}
 use mathlib.Core.Path.{sym, ap, _∙_}
 use lib.ListN.{getD}
 use Rattle.lists.specs.Lists.{part}
-use Rattle.lists.proofs.Parts.{part-lent}
+use Rattle.lists.proofs.Parts.{part-lent, lent-length}
 use Rattle.openrdson_core.specs.Mesh.{firstBelow}
 use Rattle.openrdson_core.specs.Answers.{kindAnswer}
-use Rattle.openrdson_core.proofs.BlockLaws.{lent-length}
 use Rattle.openrdson_core.proofs.MeshLaws.{count-most, inside-none, inside-is}
 use borrow.Author.Needs.{needs}
 use Rattle.openrdson_core.proofs.mesh.element_inside.Statement.{statement}

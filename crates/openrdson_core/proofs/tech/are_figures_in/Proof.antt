@@ -3,7 +3,6 @@ use native.Mathlib.Omega.{arith}
 use mathlib.Core.Path.{_≡_, sym, _∙_}
 use borrow.Author.Needs.{needs}
 use borrow.Author.Tests.{not-true, not-false}
-use lib.ListN.{length-take, length-drop}
 use Rattle.openrdson_core.specs.Tech.{figuresIn}
 use Rattle.lists.proofs.Parts.{part-length}
 use Rattle.openrdson_core.proofs.tech.are_figures_in.Statement.{statement}

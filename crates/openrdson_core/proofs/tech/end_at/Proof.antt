@@ -5,9 +5,9 @@ use mathlib.Core.Path.{_≡_, refl, sym, ap, _∙_}
 use mathlib.Core.Option.{some}
 use borrow.Author.Needs.{needs}
 use Rattle.lists.specs.Lists.{part}
-use Rattle.lists.proofs.Parts.{part-lent}
+use Rattle.lists.proofs.Parts.{part-lent, lent-length}
 use Rattle.openrdson_core.specs.Bytes.{zeros, nameLength, unpad}
-use Rattle.openrdson_core.proofs.BlockLaws.{lent-length, unpad-part}
+use Rattle.openrdson_core.proofs.BlockLaws.{unpad-part}
 use Rattle.openrdson_core.proofs.tech.end_at.Statement.{statement}
 use Rattle.openrdson_core.proofs.tech.end_at.Tie as tie
 use Rattle.openrdson_core.proofs.tech.end_at.Reads as reads

@@ -8,12 +8,12 @@ use mathlib.Core.Option.{Option, some}
 use borrow.Author.Needs.{needs}
 use Rattle.lists.specs.Answer.{Answer, given}
 use Rattle.lists.proofs.Fills.{run-room}
-use Rattle.lists.proofs.Parts.{part-lent}
+use Rattle.lists.proofs.Parts.{part-lent, lent-length}
 use Rattle.openrdson_core.specs.Answers.{rowAnswer}
 use Rattle.openrdson_core.specs.Blocks.{count, mapOption}
 use Rattle.openrdson_core.specs.Tech.{StackFigures, figuresOf}
 use Rattle.openrdson_core.specs.declared.blocks.Cell.the-variants.{Name, Figures}
-use Rattle.openrdson_core.proofs.BlockLaws.{Counted, counted, row-below, lent-length, entry-some, entry-none}
+use Rattle.openrdson_core.proofs.BlockLaws.{Counted, counted, row-below, entry-some, entry-none}
 use Rattle.openrdson_core.proofs.tech.find_stack_layer.Statement.{statement}
 use Rattle.openrdson_core.proofs.tech.find_stack_layer.Tie as tie
 use Rattle.openrdson_core.proofs.tech.find_stack_layer.Reads as reads
