@@ -17,7 +17,8 @@ or-true : (p : Bool) → (p || true) ≡ true
 or-true true = refl
 or-true false = refl
 
-both : (p q : Bool) → (p && q) ≡ true → (p ≡ true) × (q ≡ true)
+-- what && tells
+pub both : (p q : Bool) → (p && q) ≡ true → (p ≡ true) × (q ≡ true)
 both true true e = (refl, refl)
 both true false e = (refl, e)
 both false q e = let z : _≡_ {A = Bool} false true = e in (e, cc)

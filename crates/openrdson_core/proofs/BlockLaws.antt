@@ -10,19 +10,12 @@ use lib.ListN.{length}
 use borrow.Author.Tests.{eqb-true, leb-true}
 use Rattle.lists.specs.Lists.{part, allBelow}
 use Rattle.lists.proofs.Parts.{part-head}
+use Rattle.lists.proofs.Scans.{both}
 use Rattle.lists.proofs.Searches.{first-below}
 use Rattle.openrdson_core.specs.Bytes.{same, unpad, nameLength}
 use Rattle.openrdson_core.specs.Blocks.{widthOf, cellOk, count, keyAt, valueAt, distinct, blockOk, rowOf, mapOption, entryOf}
 use Rattle.openrdson_core.specs.declared.blocks.Cell.{Cell}
 use Rattle.openrdson_core.specs.declared.blocks.Cell.the-variants.{Name}
-
-first-of : (p q : Bool) → (p && q) ≡ true → p ≡ true
-first-of true q e = refl
-first-of false q e = e
-
-second-of : (p q : Bool) → (p && q) ≡ true → q ≡ true
-second-of true q e = e
-second-of false q e = cc
 
 -- a sound block counts at most 256 rows, and has exactly their length
 pub record Counted (k v : Cell) (s : List ℕ) : Type 0 where
@@ -36,8 +29,9 @@ counted k v once s e =
     let b = eqb (length s) (2 + count s * (widthOf k + widthOf v)) in
     let c = allBelow (count s) (λ i. cellOk k (keyAt k s i)) in
     let d = allBelow (count s) (λ i. cellOk v (valueAt k v s i)) in
-    let ab = first-of (a && b) c (first-of (a && b && c) d (first-of (a && b && c && d) (not once || distinct (count s) (keyAt k s)) e)) in
-    record { few = leb-true (count s) 256 (first-of a b ab); long = eqb-true (length s) (2 + count s * (widthOf k + widthOf v)) (second-of a b ab) }
+    let four = both (a && b && c && d) (not once || distinct (count s) (keyAt k s)) e in
+    let two = both a b (both (a && b) c (both (a && b && c) d (four .0) .0) .0) in
+    record { few = leb-true (count s) 256 (two .0); long = eqb-true (length s) (2 + count s * (widthOf k + widthOf v)) (two .1) }
 
 -- the row found is a row
 pub row-below : (s name : List ℕ) (i : ℕ) → some i ≡ rowOf s name → i < count s

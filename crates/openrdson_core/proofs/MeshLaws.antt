@@ -10,16 +10,11 @@ use lib.ListN.{length, getD}
 use borrow.Author.Tests.{eq-eqb, ne-eqb, eqb-true, lt-ltb, le-ltb, ltb-true, leb-true}
 use Rattle.lists.specs.Lists.{allBelow}
 use Rattle.lists.proofs.Parts.{part-at}
-use Rattle.lists.proofs.Scans.{all-start, all-from, all-more, all-fails, all-at}
+use Rattle.lists.proofs.Scans.{both, all-start, all-from, all-more, all-fails, all-at}
 use Rattle.openrdson_core.specs.Mesh.{Mesh, unused, kindNumber, nodeCount, kindOf, parallelLengths, parallel, withinLengths, within, fits, restUnused, firstBelow, soundElement, insideElement, validElement, kindAt, placesOf, usedOf, kindOk, unusedOk, usedBelow, elementOk, wellFormed}
 use Rattle.openrdson_core.specs.declared.mesh.ElementType.{ElementType}
 use Rattle.openrdson_core.specs.declared.mesh.ElementType.the-variants.{Tet, Hex, Prism, Pyramid}
 use Rattle.openrdson_core.specs.declared.mesh.Counts.{Counts}
-
-both : (p q : Bool) → (p && q) ≡ true → (p ≡ true) × (q ≡ true)
-both true true e = (refl, refl)
-both true false e = (refl, e)
-both false q e = let z : _≡_ {A = Bool} false true = e in (e, cc)
 
 same-test : (p q : Bool) → (p ≡ true → q ≡ true) → (q ≡ true → p ≡ true) → p ≡ q
 same-test true q f g = sym (f refl)
