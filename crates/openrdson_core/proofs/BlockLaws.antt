@@ -2,7 +2,7 @@
 use mathlib.Core.Path.{_≡_, refl, sym, ap, _∙_}
 use mathlib.Core.Bool.{Bool, true, false, not, _&&_, _||_}
 use mathlib.Core.List.{List}
-use mathlib.Core.Option.{Option, some, none}
+use mathlib.Core.Option.{Option, some, none, Option·map}
 use Prim.Native.Nat.{ℕ, _+_, _*_, _-_, _≤_, _<_}
 use native.Mathlib.Omega.{arith}
 use lib.Dec.{eqb, leb}
@@ -13,7 +13,7 @@ use Rattle.lists.proofs.Parts.{part-head}
 use Rattle.lists.proofs.Scans.{both}
 use Rattle.lists.proofs.Searches.{first-below}
 use Rattle.openrdson_core.specs.Bytes.{same, unpad, nameLength}
-use Rattle.openrdson_core.specs.Blocks.{widthOf, cellOk, count, keyAt, valueAt, distinct, blockOk, rowOf, mapOption, entryOf}
+use Rattle.openrdson_core.specs.Blocks.{widthOf, cellOk, count, keyAt, valueAt, distinct, blockOk, rowOf, entryOf}
 use Rattle.openrdson_core.specs.declared.blocks.Cell.{Cell}
 use Rattle.openrdson_core.specs.declared.blocks.Cell.the-variants.{Name}
 
@@ -44,7 +44,7 @@ unpad-part s start h = part-head s start (nameLength (part start 32 s)) 32 h
 
 -- the value of the row found, and of none
 pub entry-some : (v : Cell) (s name : List ℕ) (i start : ℕ) → some i ≡ rowOf s name → start ≡ 2 + count s * 32 + i * widthOf v → some (part start (widthOf v) s) ≡ entryOf v s name
-entry-some v s name i start e at = ap (λ (k : ℕ). some (part k (widthOf v) s)) at ∙ ap (mapOption (valueAt Name v s)) e
+entry-some v s name i start e at = ap (λ (k : ℕ). some (part k (widthOf v) s)) at ∙ ap (Option·map (valueAt Name v s)) e
 
 pub entry-none : (v : Cell) (s name : List ℕ) → none ≡ rowOf s name → none ≡ entryOf v s name
-entry-none v s name e = ap (mapOption (valueAt Name v s)) e
+entry-none v s name e = ap (Option·map (valueAt Name v s)) e

@@ -6,7 +6,7 @@ use Rattle.lists.specs.Answer.{Answer, given}
 use mathlib.Core.Option.{Option, some, none}
 use mathlib.Core.List.{List}
 use Prim.Native.Nat.{ℕ}
-use Rattle.openrdson_core.specs.Maps.{lookup, spanned, spanWithin, orElse, inMap}
+use Rattle.openrdson_core.specs.Maps.{lookup, spanned, spanWithin}
 use Rattle.openrdson_core.proofs.maps.name_place.Statement.{statement}
 use Rattle.openrdson_core.proofs.maps.name_place.Tie as tie
 use Rattle.openrdson_core.proofs.maps.name_place.Reads as reads
