@@ -1,8 +1,8 @@
 -- The name that is the value of a row, in a block with keys k. Assumes nothing.
-use mathlib.Core.Path.{_≡_, refl, sym, ap, _∙_}
+use mathlib.Core.Path.{_≡_, sym, ap, _∙_}
 use mathlib.Core.List.{List}
 use mathlib.Core.Option.{Option, some, none, Option·map}
-use Prim.Native.Nat.{ℕ, _+_, _*_, _-_, _≤_}
+use Prim.Native.Nat.{ℕ, _+_, _*_, _≤_}
 use Rattle.lists.specs.Lists.{part}
 use Rattle.openrdson_core.specs.Bytes.{unpad, nameLength}
 use Rattle.openrdson_core.specs.Blocks.{widthOf, count, valueAt}

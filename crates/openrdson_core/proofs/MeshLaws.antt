@@ -10,7 +10,7 @@ use lib.ListN.{length, getD}
 use borrow.Author.Tests.{eq-eqb, ne-eqb, eqb-true, lt-ltb, le-ltb, ltb-true, leb-true}
 use Rattle.lists.specs.Lists.{allBelow}
 use Rattle.lists.proofs.Parts.{part-at}
-use Rattle.lists.proofs.Scans.{both, all-start, all-from, all-more, all-fails, all-at}
+use Rattle.lists.proofs.Scans.{both, all-from, all-more, all-fails, all-at}
 use Rattle.openrdson_core.specs.Mesh.{Mesh, unused, kindNumber, nodeCount, kindOf, parallelLengths, parallel, withinLengths, within, fits, known, usedPlaces, restUnused, firstBelow, soundElement, validElement, kindAt, placesOf, usedOf, kindOk, unusedOk, usedBelow, elementOk, wellFormed}
 use Rattle.openrdson_core.specs.declared.mesh.ElementType.{ElementType}
 use Rattle.openrdson_core.specs.declared.mesh.ElementType.the-variants.{Tet, Hex, Prism, Pyramid}

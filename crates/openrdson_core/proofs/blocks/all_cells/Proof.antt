@@ -4,7 +4,6 @@ use native.Mathlib.Omega.{arith}
 use borrow.Author.Needs.{needs}
 use mathlib.Core.Path.{_≡_, sym, ap, _∙_}
 use mathlib.Core.Bool.{true}
-use lib.ListN.{length}
 use borrow.Author.Tests.{not-true, not-false}
 use Rattle.lists.proofs.Parts.{run-lent, lent-length}
 use Rattle.lists.specs.Lists.{part, allBelow}
@@ -13,10 +12,6 @@ use Rattle.lists.proofs.Fills.{run-room, run-first, run-next}
 use Rattle.openrdson_core.specs.Blocks.{widthOf, cellOk}
 use Rattle.openrdson_core.proofs.blocks.all_cells.Statement.{statement}
 use Rattle.openrdson_core.proofs.blocks.all_cells.Tie as tie
-use Rattle.openrdson_core.proofs.blocks.all_cells.Reads as reads
-use Rattle.openrdson_core.proofs.blocks.all_cells.Lts as lts
-use Rattle.openrdson_core.proofs.blocks.is_cell.Reads as is-cell-reads
-use Rattle.openrdson_core.proofs.blocks.width.Reads as width-reads
 
 abbrev Inv-loop : tie.InvT-loop
 Inv-loop s from n cell w at₀ i₀ at i = (i ≤ n) × (at ≡ from + i * widthOf cell) × (allBelow i (λ k. cellOk cell (part (from + k * widthOf cell) (widthOf cell) s)) ≡ true)

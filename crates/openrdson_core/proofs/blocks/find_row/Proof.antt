@@ -4,20 +4,14 @@ use native.Mathlib.Omega.{arith}
 use borrow.Author.Needs.{needs}
 use mathlib.Core.Path.{_≡_, refl, sym, ap, _∙_}
 use mathlib.Core.List.{List}
-use mathlib.Core.Option.{Option, some, none}
-use lib.ListN.{length}
 use Rattle.lists.proofs.Parts.{run-lent}
 use Rattle.lists.specs.Lists.{part, first}
 use Rattle.lists.proofs.Searches.{Searched, search-start, search-found, search-more, search-end}
-use Rattle.lists.proofs.Fills.{run-room, run-first, run-next}
+use Rattle.lists.proofs.Fills.{run-room}
 use Rattle.openrdson_core.specs.Bytes.{same, unpad}
 use Rattle.openrdson_core.specs.Blocks.{rowOf, count}
 use Rattle.openrdson_core.proofs.blocks.find_row.Statement.{statement}
 use Rattle.openrdson_core.proofs.blocks.find_row.Tie as tie
-use Rattle.openrdson_core.proofs.blocks.find_row.Reads as reads
-use Rattle.openrdson_core.proofs.blocks.find_row.Lts as lts
-use Rattle.openrdson_core.proofs.blocks.is_named.Reads as is-named-reads
-use Rattle.openrdson_core.proofs.blocks.rows.Reads as rows-reads
 
 abbrev Inv-loop : tie.InvT-loop
 Inv-loop s name n at₀ i₀ at i = (i ≤ n) × (at ≡ 2 + i * 32) × Searched (λ k. same (unpad (part (2 + k * 32) 32 s)) name) n i

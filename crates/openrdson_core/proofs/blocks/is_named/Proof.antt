@@ -1,6 +1,6 @@
 -- `is_named` meets its contract. Assumes nothing.
 use native.Mathlib.Omega.{arith}
-use mathlib.Core.Path.{_≡_, sym, ap, _∙_}
+use mathlib.Core.Path.{ap, _∙_}
 use borrow.Author.Needs.{needs}
 use Prim.Native.Nat.{ℕ}
 use mathlib.Core.List.{List}
@@ -9,10 +9,6 @@ use Rattle.lists.proofs.Parts.{head-lent}
 use Rattle.openrdson_core.specs.Bytes.{same}
 use Rattle.openrdson_core.proofs.blocks.is_named.Statement.{statement}
 use Rattle.openrdson_core.proofs.blocks.is_named.Tie as tie
-use Rattle.openrdson_core.proofs.blocks.is_named.Reads as reads
-use Rattle.openrdson_core.proofs.blocks.is_named.Lts as lts
-use Rattle.openrdson_core.proofs.bytes.is_same.Reads as is-same-reads
-use Rattle.openrdson_core.proofs.bytes.name_length.Reads as name-length-reads
 
 name-length-requires : tie.Need-name-length-requires
 name-length-requires c κs = search needs

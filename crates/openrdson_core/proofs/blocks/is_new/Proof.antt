@@ -3,9 +3,8 @@ use Prim.Native.Nat.{ℕ, _+_, _*_, _-_, _≤_}
 use native.Mathlib.Omega.{arith}
 use borrow.Author.Needs.{needs}
 use mathlib.Core.Path.{_≡_, refl, sym, ap, _∙_}
-use mathlib.Core.Bool.{Bool, true, not}
+use mathlib.Core.Bool.{true, not}
 use mathlib.Core.List.{List}
-use lib.ListN.{length}
 use Rattle.lists.proofs.Parts.{run-lent}
 use Rattle.lists.specs.Lists.{part, allBelow}
 use Rattle.lists.proofs.Scans.{all-start, all-more, all-fails}
@@ -13,9 +12,6 @@ use Rattle.lists.proofs.Fills.{run-room, run-first, run-next}
 use Rattle.openrdson_core.specs.Bytes.{same}
 use Rattle.openrdson_core.proofs.blocks.is_new.Statement.{statement}
 use Rattle.openrdson_core.proofs.blocks.is_new.Tie as tie
-use Rattle.openrdson_core.proofs.blocks.is_new.Reads as reads
-use Rattle.openrdson_core.proofs.blocks.is_new.Lts as lts
-use Rattle.openrdson_core.proofs.bytes.is_same.Reads as is-same-reads
 
 abbrev Inv-loop : tie.InvT-loop
 Inv-loop s w n cell at₀ j₀ at j = (j ≤ n) × (at ≡ 2 + j * w) × (allBelow j (λ k. not (same (part (2 + k * w) w s) (part (2 + n * w) w s))) ≡ true)

@@ -18,12 +18,6 @@ use Rattle.openrdson_core.proofs.LayoutLaws.{layer-below}
 use Rattle.openrdson_core.proofs.MapLaws.{name-none, name-some}
 use Rattle.openrdson_core.proofs.layout.find_layer_name.Statement.{statement}
 use Rattle.openrdson_core.proofs.layout.find_layer_name.Tie as tie
-use Rattle.openrdson_core.proofs.layout.find_layer_name.Reads as reads
-use Rattle.openrdson_core.proofs.layout.find_layer_name.Lts as lts
-use Rattle.openrdson_core.proofs.blocks.rows.Reads as rows-reads
-use Rattle.openrdson_core.proofs.bytes.name_length.Reads as name-length-reads
-use Rattle.openrdson_core.proofs.layout.find_pattern.Reads as find-pattern-reads
-use Rattle.openrdson_core.proofs.layout.pattern.Reads as pattern-reads
 
 rows-requires : tie.Need-rows-requires
 rows-requires c κs = let w : Counted Number Name (c .before .args .s .now) = counted Number Name true (c .before .args .s .now) (c .before .pre) in omega arith

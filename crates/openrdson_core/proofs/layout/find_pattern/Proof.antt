@@ -1,10 +1,8 @@
 -- `find_pattern` meets its contract: a search, key by key. Assumes nothing.
 use Prim.Native.Nat.{ℕ, _+_, _*_, _-_, _≤_}
 use native.Mathlib.Omega.{arith}
-use borrow.Author.Needs.{needs}
 use mathlib.Core.Path.{_≡_, refl, sym, ap, _∙_}
 use mathlib.Core.Bool.{true}
-use mathlib.Core.Option.{Option, some, none}
 use lib.Dec.{eqb}
 use borrow.Author.Tests.{eq-eqb, ne-eqb}
 use Rattle.lists.proofs.Parts.{run-lent, lent-length}
@@ -12,16 +10,11 @@ use Rattle.lists.specs.Lists.{part, first}
 use Rattle.lists.proofs.Searches.{Searched, search-start, search-found, search-more, search-end}
 use Rattle.lists.proofs.Fills.{run-room}
 use Rattle.openrdson_core.specs.Bytes as bytes
-use Rattle.openrdson_core.specs.Blocks.{count}
 use Rattle.openrdson_core.specs.Layout.{rowOfPattern}
 use Rattle.openrdson_core.specs.declared.blocks.Cell.the-variants.{Name, Number}
 use Rattle.openrdson_core.proofs.BlockLaws.{Counted, counted}
 use Rattle.openrdson_core.proofs.layout.find_pattern.Statement.{statement}
 use Rattle.openrdson_core.proofs.layout.find_pattern.Tie as tie
-use Rattle.openrdson_core.proofs.layout.find_pattern.Reads as reads
-use Rattle.openrdson_core.proofs.layout.find_pattern.Lts as lts
-use Rattle.openrdson_core.proofs.blocks.rows.Reads as rows-reads
-use Rattle.openrdson_core.proofs.bytes.little.Reads as little-reads
 
 abbrev Inv-loop : tie.InvT-loop
 Inv-loop s bits n at₀ i₀ at i = (i ≤ n) × (at ≡ 2 + i * 2) × Searched (λ k. eqb (bytes.little (part (2 + k * 2) 2 s)) bits) n i

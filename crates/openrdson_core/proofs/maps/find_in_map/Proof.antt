@@ -1,9 +1,8 @@
 -- `find_in_map` meets its contract: the row of the logical name, and the name in its value. Assumes nothing.
 use Prim.Native.Nat.{ℕ, _+_, _*_, _≤_, _<_}
 use native.Mathlib.Omega.{arith}
-use mathlib.Core.Path.{_≡_, sym, ap, _∙_}
+use mathlib.Core.Path.{sym, ap, _∙_}
 use borrow.Author.Needs.{needs}
-use lib.ListN.{length}
 use Rattle.lists.proofs.Parts.{part-lent, lent-length}
 use Rattle.lists.proofs.Fills.{run-room}
 use Rattle.openrdson_core.specs.Bytes.{nameLength}
@@ -15,11 +14,6 @@ use Rattle.openrdson_core.proofs.MapLaws.{name-none, name-some}
 use mathlib.Core.Bool.{true}
 use Rattle.openrdson_core.proofs.maps.find_in_map.Statement.{statement}
 use Rattle.openrdson_core.proofs.maps.find_in_map.Tie as tie
-use Rattle.openrdson_core.proofs.maps.find_in_map.Reads as reads
-use Rattle.openrdson_core.proofs.maps.find_in_map.Lts as lts
-use Rattle.openrdson_core.proofs.blocks.find_row.Reads as find-row-reads
-use Rattle.openrdson_core.proofs.blocks.rows.Reads as rows-reads
-use Rattle.openrdson_core.proofs.bytes.name_length.Reads as name-length-reads
 
 rows-requires : tie.Need-rows-requires
 rows-requires c κs = let w : Counted Name Name (c .before .before .args .s .now) = counted Name Name true (c .before .before .args .s .now) (c .before .before .pre) in omega arith

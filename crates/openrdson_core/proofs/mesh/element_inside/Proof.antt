@@ -1,6 +1,6 @@
 -- `element_inside` meets its contract: by how many places it uses. Assumes nothing.
 use Prim.Native.Nat.{ℕ, _*_}
-use mathlib.Core.Path.{sym, ap, _∙_}
+use mathlib.Core.Path.{ap, _∙_}
 use lib.ListN.{length}
 use Rattle.lists.specs.Lists.{part}
 use Rattle.lists.proofs.Parts.{part-length}
@@ -8,11 +8,6 @@ use Rattle.openrdson_core.specs.Mesh.{firstBelow}
 use borrow.Author.Needs.{needs}
 use Rattle.openrdson_core.proofs.mesh.element_inside.Statement.{statement}
 use Rattle.openrdson_core.proofs.mesh.element_inside.Tie as tie
-use Rattle.openrdson_core.proofs.mesh.element_inside.Reads as reads
-use Rattle.openrdson_core.proofs.mesh.element_inside.Lts as lts
-use Rattle.openrdson_core.proofs.mesh.first_below.Reads as first-below-reads
-use Rattle.openrdson_core.proofs.mesh.places_of.Reads as places-of-reads
-use Rattle.openrdson_core.proofs.mesh.used_places.Reads as used-places-reads
 
 shared-slice-read-used-places : tie.Need-shared-slice-read-used-places
 shared-slice-read-used-places c = search needs

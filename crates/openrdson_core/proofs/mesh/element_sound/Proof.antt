@@ -9,11 +9,6 @@ use Rattle.openrdson_core.proofs.MeshLaws.{sound-none, sound-is}
 use borrow.Author.Needs.{needs}
 use Rattle.openrdson_core.proofs.mesh.element_sound.Statement.{statement}
 use Rattle.openrdson_core.proofs.mesh.element_sound.Tie as tie
-use Rattle.openrdson_core.proofs.mesh.element_sound.Reads as reads
-use Rattle.openrdson_core.proofs.mesh.element_sound.Lts as lts
-use Rattle.openrdson_core.proofs.mesh.places_of.Reads as places-of-reads
-use Rattle.openrdson_core.proofs.mesh.rest_unused.Reads as rest-unused-reads
-use Rattle.openrdson_core.proofs.mesh.used_places.Reads as used-places-reads
 
 shared-slice-read-used-places : tie.Need-shared-slice-read-used-places
 shared-slice-read-used-places c = search needs

@@ -4,8 +4,6 @@ use Rattle.lists.proofs.Parts.{part-lent}
 use borrow.Author.Needs.{needs}
 use Rattle.openrdson_core.proofs.mesh.places_of.Statement.{statement}
 use Rattle.openrdson_core.proofs.mesh.places_of.Tie as tie
-use Rattle.openrdson_core.proofs.mesh.places_of.Reads as reads
-use Rattle.openrdson_core.proofs.mesh.places_of.Lts as lts
 
 mul-first : tie.Need-mul-first
 mul-first c = search needs

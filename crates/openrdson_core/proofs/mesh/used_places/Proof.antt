@@ -7,10 +7,6 @@ use Rattle.openrdson_core.proofs.MeshLaws.{used-most}
 use borrow.Author.Needs.{needs}
 use Rattle.openrdson_core.proofs.mesh.used_places.Statement.{statement}
 use Rattle.openrdson_core.proofs.mesh.used_places.Tie as tie
-use Rattle.openrdson_core.proofs.mesh.used_places.Reads as reads
-use Rattle.openrdson_core.proofs.mesh.used_places.Lts as lts
-use Rattle.openrdson_core.proofs.mesh.ElementType.node_count.Reads as node-count-reads
-use Rattle.openrdson_core.proofs.mesh.element_type.Reads as element-type-reads
 
 element-type-requires : tie.Need-element-type-requires
 element-type-requires c κs = search needs

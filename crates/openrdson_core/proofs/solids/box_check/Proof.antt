@@ -1,19 +1,12 @@
 -- `box_check` meets its contract. Assumes nothing.
 use mathlib.Core.Path.{sym, ap, _∙_}
-use mathlib.Core.Bool.{Bool, _&&_}
+use mathlib.Core.Bool.{_&&_}
 use borrow.Author.Tests.{not-true, not-false}
 use Rattle.openrdson_core.specs.Answers.{checkAnswer}
 use Rattle.openrdson_core.specs.Points.{pointIn}
-use Rattle.openrdson_core.specs.declared.points.Point.{Point}
 use borrow.Author.Needs.{needs}
 use Rattle.openrdson_core.proofs.solids.box_check.Statement.{statement}
 use Rattle.openrdson_core.proofs.solids.box_check.Tie as tie
-use Rattle.openrdson_core.proofs.solids.box_check.Reads as reads
-use Rattle.openrdson_core.proofs.solids.box_check.Lts as lts
-use Rattle.openrdson_core.proofs.points.Point.is_in_range.Reads as is-in-range-reads
-use Rattle.openrdson_core.proofs.points.Point.new.Reads as new-reads
-use Rattle.openrdson_core.proofs.solids.heights_in_range.Reads as heights-in-range-reads
-use Rattle.openrdson_core.proofs.solids.points_check.Reads as points-check-reads
 
 points-check-requires : tie.Need-points-check-requires
 points-check-requires c κs = search needs

@@ -1,26 +1,21 @@
 -- `find_stack_layer` meets its contract: the row of the name, and its entry. Assumes nothing.
-use Prim.Native.Nat.{ℕ, _+_, _*_, _≤_, _<_}
+use Prim.Native.Nat.{ℕ, _+_, _*_, _<_}
 use native.Mathlib.Omega.{arith}
-use mathlib.Core.Path.{_≡_, refl, sym, ap, _∙_}
-use mathlib.Core.Bool.{true, false}
+use mathlib.Core.Path.{sym, ap, _∙_}
+use mathlib.Core.Bool.{false}
 use mathlib.Core.List.{List}
 use mathlib.Core.Option.{Option, some, Option·map}
 use borrow.Author.Needs.{needs}
-use Rattle.lists.specs.Answer.{Answer, given}
+use Rattle.lists.specs.Answer.{given}
 use Rattle.lists.proofs.Fills.{run-room}
 use Rattle.lists.proofs.Parts.{part-lent, lent-length}
 use Rattle.openrdson_core.specs.Answers.{rowAnswer}
 use Rattle.openrdson_core.specs.Blocks.{count}
-use Rattle.openrdson_core.specs.Tech.{StackFigures, figuresOf}
+use Rattle.openrdson_core.specs.Tech.{figuresOf}
 use Rattle.openrdson_core.specs.declared.blocks.Cell.the-variants.{Name, Figures}
 use Rattle.openrdson_core.proofs.BlockLaws.{Counted, counted, row-below, entry-some, entry-none}
 use Rattle.openrdson_core.proofs.tech.find_stack_layer.Statement.{statement}
 use Rattle.openrdson_core.proofs.tech.find_stack_layer.Tie as tie
-use Rattle.openrdson_core.proofs.tech.find_stack_layer.Reads as reads
-use Rattle.openrdson_core.proofs.tech.find_stack_layer.Lts as lts
-use Rattle.openrdson_core.proofs.blocks.find_row.Reads as find-row-reads
-use Rattle.openrdson_core.proofs.blocks.rows.Reads as rows-reads
-use Rattle.openrdson_core.proofs.tech.entry_at.Reads as entry-at-reads
 
 rows-requires : tie.Need-rows-requires
 rows-requires c κs = let w : Counted Name Figures (c .before .before .args .s .now) = counted Name Figures false (c .before .before .args .s .now) (c .before .before .pre) in omega arith

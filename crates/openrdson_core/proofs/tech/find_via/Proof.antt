@@ -1,27 +1,22 @@
 -- `find_via` meets its contract: the row of the name, and the two names of its value. Assumes nothing.
-use Prim.Native.Nat.{ℕ, _+_, _*_, _≤_, _<_}
+use Prim.Native.Nat.{ℕ, _+_, _*_, _<_}
 use native.Mathlib.Omega.{arith}
-use mathlib.Core.Path.{_≡_, refl, sym, ap, _∙_}
-use mathlib.Core.Bool.{true, false}
+use mathlib.Core.Path.{_≡_, sym, ap, _∙_}
+use mathlib.Core.Bool.{false}
 use mathlib.Core.List.{List}
-use mathlib.Core.Option.{Option, some, Option·map}
+use mathlib.Core.Option.{Option, Option·map}
 use borrow.Author.Needs.{needs}
-use Rattle.lists.specs.Answer.{Answer, given}
+use Rattle.lists.specs.Answer.{given}
 use Rattle.lists.specs.Lists.{part}
 use Rattle.lists.proofs.Fills.{run-room}
 use Rattle.lists.proofs.Parts.{part-of-part}
 use Rattle.openrdson_core.specs.Answers.{rowAnswer}
 use Rattle.openrdson_core.specs.Blocks.{count}
-use Rattle.openrdson_core.specs.Tech.{ViaNames, viaNamesOf, endName}
+use Rattle.openrdson_core.specs.Tech.{viaNamesOf, endName}
 use Rattle.openrdson_core.specs.declared.blocks.Cell.the-variants.{Name, Ends}
 use Rattle.openrdson_core.proofs.BlockLaws.{Counted, counted, row-below, entry-some, entry-none}
 use Rattle.openrdson_core.proofs.tech.find_via.Statement.{statement}
 use Rattle.openrdson_core.proofs.tech.find_via.Tie as tie
-use Rattle.openrdson_core.proofs.tech.find_via.Reads as reads
-use Rattle.openrdson_core.proofs.tech.find_via.Lts as lts
-use Rattle.openrdson_core.proofs.blocks.find_row.Reads as find-row-reads
-use Rattle.openrdson_core.proofs.blocks.rows.Reads as rows-reads
-use Rattle.openrdson_core.proofs.tech.end_at.Reads as end-at-reads
 
 rows-requires : tie.Need-rows-requires
 rows-requires c κs = let w : Counted Name Ends (c .before .before .args .s .now) = counted Name Ends false (c .before .before .args .s .now) (c .before .before .pre) in omega arith

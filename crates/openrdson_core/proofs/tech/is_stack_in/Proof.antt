@@ -1,24 +1,19 @@
 -- `is_stack_in` meets its contract: a scan, entry by entry. Assumes nothing.
 use Prim.Native.Nat.{ℕ, _+_, _*_, _-_, _≤_}
 use native.Mathlib.Omega.{arith}
-use borrow.Author.Needs.{needs}
 use mathlib.Core.Path.{_≡_, refl, sym, ap, _∙_}
 use mathlib.Core.Bool.{true, false}
 use borrow.Author.Tests.{not-true, not-false}
 use Rattle.lists.proofs.Parts.{run-lent, lent-length}
 use Rattle.lists.specs.Lists.{part, allBelow}
 use Rattle.lists.proofs.Scans.{all-start, all-more, all-fails}
-use Rattle.lists.proofs.Fills.{run-room, run-first, run-next}
+use Rattle.lists.proofs.Fills.{run-room}
 use Rattle.openrdson_core.specs.Blocks.{count}
 use Rattle.openrdson_core.specs.Tech.{figuresIn, stackIn}
 use Rattle.openrdson_core.specs.declared.blocks.Cell.the-variants.{Name, Figures}
 use Rattle.openrdson_core.proofs.BlockLaws.{Counted, counted}
 use Rattle.openrdson_core.proofs.tech.is_stack_in.Statement.{statement}
 use Rattle.openrdson_core.proofs.tech.is_stack_in.Tie as tie
-use Rattle.openrdson_core.proofs.tech.is_stack_in.Reads as reads
-use Rattle.openrdson_core.proofs.tech.is_stack_in.Lts as lts
-use Rattle.openrdson_core.proofs.blocks.rows.Reads as rows-reads
-use Rattle.openrdson_core.proofs.tech.are_figures_in.Reads as are-figures-in-reads
 
 abbrev Inv-loop : tie.InvT-loop
 Inv-loop s n at₀ i₀ at i = (i ≤ n) × (at ≡ 2 + count s * 32 + i * 17) × (allBelow i (λ k. figuresIn (part (2 + count s * 32 + k * 17) 17 s)) ≡ true)

@@ -1,6 +1,5 @@
 -- `Solid::footprint_bbox` meets its contract: by the case. Assumes nothing.
-use mathlib.Core.Path.{_≡_, sym, ap, _∙_}
-use lib.Ieee.{Float}
+use mathlib.Core.Path.{sym, ap, _∙_}
 use Rattle.lists.specs.Answer.{Answer, given, unless, andThen}
 use Rattle.openrdson_core.specs.Answers.{checkAnswer}
 use Rattle.openrdson_core.specs.Bounds.{boundsOf}
@@ -10,11 +9,6 @@ use Rattle.openrdson_core.specs.declared.bounds.Bbox.{Bbox}
 use borrow.Author.Needs.{needs}
 use Rattle.openrdson_core.proofs.solids.Solid.footprint_bbox.Statement.{statement}
 use Rattle.openrdson_core.proofs.solids.Solid.footprint_bbox.Tie as tie
-use Rattle.openrdson_core.proofs.solids.Solid.footprint_bbox.Reads as reads
-use Rattle.openrdson_core.proofs.solids.Solid.footprint_bbox.Lts as lts
-use Rattle.openrdson_core.proofs.solids.box_check.Reads as box-check-reads
-use Rattle.openrdson_core.proofs.solids.part_bounds.Reads as part-bounds-reads
-use Rattle.openrdson_core.proofs.solids.prism_bounds.Reads as prism-bounds-reads
 
 enum-known-self : tie.Need-enum-known-self
 enum-known-self c = search needs

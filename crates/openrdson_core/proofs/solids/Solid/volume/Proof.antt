@@ -1,5 +1,5 @@
 -- `Solid::volume` meets its contract: by the case. Assumes nothing.
-use mathlib.Core.Path.{_≡_, sym, ap, _∙_}
+use mathlib.Core.Path.{sym, ap, _∙_}
 use lib.Ieee.{Float}
 use Rattle.lists.specs.Answer.{Answer, given, unless, andThen}
 use Rattle.openrdson_core.specs.Answers.{checkAnswer}
@@ -10,12 +10,6 @@ use Rattle.binary64.specs.Numbers.{_⊖_, _⊗_, abs}
 use borrow.Author.Needs.{needs}
 use Rattle.openrdson_core.proofs.solids.Solid.volume.Statement.{statement}
 use Rattle.openrdson_core.proofs.solids.Solid.volume.Tie as tie
-use Rattle.openrdson_core.proofs.solids.Solid.volume.Reads as reads
-use Rattle.openrdson_core.proofs.solids.Solid.volume.Lts as lts
-use Rattle.binary64.proofs.abs.Reads as abs-reads
-use Rattle.openrdson_core.proofs.solids.box_check.Reads as box-check-reads
-use Rattle.openrdson_core.proofs.solids.part_area.Reads as part-area-reads
-use Rattle.openrdson_core.proofs.solids.prism_volume.Reads as prism-volume-reads
 
 enum-known-self : tie.Need-enum-known-self
 enum-known-self c = search needs
