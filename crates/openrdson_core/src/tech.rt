@@ -52,13 +52,14 @@ pub enum Numbered {
     Refused(Refusal),
 }
 
-// A conductors or a diffusions block, and a vias block.
+// Whether s is a conductors or a diffusions block.
 pub fn is_stack(s: &[u8]) -> bool
     ensures { λ r. ⌜ r ≡ stackOk (now (s .entry)) ⌝ }
 {
     is_block(s, Cell::Name, Cell::Figures, false)
 }
 
+// Whether s is a vias block.
 pub fn is_vias(s: &[u8]) -> bool
     ensures { λ r. ⌜ r ≡ viasOk (now (s .entry)) ⌝ }
 {
@@ -104,7 +105,7 @@ fn are_figures_in(c: &[u8]) -> bool
     is_figure_in(2 <= flag, &c[9..17])
 }
 
-// Whether the present figures of a sound block are finite and at most 2^19 in size.
+// Whether the present figures of a block are finite and at most 2^19 in size. It is `pub` for the crate above, and requires a block that has been checked.
 pub fn is_stack_in(s: &[u8]) -> bool
     requires { ⌜ stackOk (now s) ≡ true ⌝ }
     ensures { λ r. ⌜ r ≡ spec.stackIn (now (s .entry)) ⌝ }
