@@ -6,11 +6,11 @@ use borrow.Author.Needs.{needs}
 use Rattle.replay.proofs.run.is_answered.Statement.{statement}
 use Rattle.replay.proofs.run.is_answered.Tie as tie
 
-list-length-requires : tie.Need-list-length-requires
-list-length-requires c κs = search needs
+length-at-requires : tie.Need-length-at-requires
+length-at-requires c κs = search needs
 
-list-length-requires-2 : tie.Need-list-length-requires-2
-list-length-requires-2 c κs = search needs
+length-at-requires-2 : tie.Need-length-at-requires-2
+length-at-requires-2 c κs = search needs
 
 floats-at-requires : tie.Need-floats-at-requires
 floats-at-requires c κs = search needs
@@ -25,28 +25,25 @@ array-share-prefix-xs : tie.Need-array-share-prefix-xs
 array-share-prefix-xs c = search needs
 
 slice-aggregate-answer : tie.Need-slice-aggregate-answer
-slice-aggregate-answer c = sym (length-take-le (c .before .before .before .before .list-length .result) (c .before .before .floats-at .result) (omega (arith, c .before .before .floats-at .ensures, c .before .before .before .before .list-length .ensures)))
+slice-aggregate-answer c = sym (length-take-le (c .before .before .before .before .length-at .result) (c .before .before .floats-at .result) (omega (arith, c .before .before .floats-at .ensures, c .before .before .before .before .length-at .ensures)))
 
 array-share-prefix-ys : tie.Need-array-share-prefix-ys
 array-share-prefix-ys c = search needs
 
 slice-aggregate-answer-2 : tie.Need-slice-aggregate-answer-2
-slice-aggregate-answer-2 c = sym (length-take-le (c .before .before .before .before .list-length2 .result) (c .before .before .floats-at2 .result) (omega (arith, c .before .before .floats-at2 .ensures, c .before .before .before .before .list-length2 .ensures)))
+slice-aggregate-answer-2 c = sym (length-take-le (c .before .before .before .before .length-at2 .result) (c .before .before .floats-at2 .result) (omega (arith, c .before .before .floats-at2 .ensures, c .before .before .before .before .length-at2 .ensures)))
 
 answer-requires : tie.Need-answer-requires
 answer-requires c κs = search needs
 
-add-recorded : tie.Need-add-recorded
-add-recorded c = search needs
+add-is-recorded : tie.Need-add-is-recorded
+add-is-recorded c = search needs
 
-add-recorded-2 : tie.Need-add-recorded-2
-add-recorded-2 c = search needs
+add-is-recorded-2 : tie.Need-add-is-recorded-2
+add-is-recorded-2 c = search needs
 
-recorded-requires : tie.Need-recorded-requires
-recorded-requires c κs = search needs
-
-is-requires : tie.Need-is-requires
-is-requires c κs = search needs
+is-recorded-requires : tie.Need-is-recorded-requires
+is-recorded-requires c κs = search needs
 
 returns : tie.Need-returns
 returns c = search needs
@@ -55,8 +52,8 @@ pub is-answered-spec : {M : Type 1} → statement M
 is-answered-spec =
     tie.close
     (tie.spec
-    list-length-requires
-    list-length-requires-2
+    length-at-requires
+    length-at-requires-2
     floats-at-requires
     add-floats-at
     floats-at-requires-2
@@ -65,8 +62,7 @@ is-answered-spec =
     array-share-prefix-ys
     slice-aggregate-answer-2
     answer-requires
-    add-recorded
-    add-recorded-2
-    recorded-requires
-    is-requires
+    add-is-recorded
+    add-is-recorded-2
+    is-recorded-requires
     returns)
