@@ -50,7 +50,7 @@ fn is_answered(record: &[u8]) -> bool {
     let n = length_at(record, 2);
     let xs = floats_at(record, 11, m);
     let ys = floats_at(record, 11 + m, n);
-    let given = answer(record, &xs[..m], &ys[..n]);
+    let given = answer(record, &xs[0..m], &ys[0..n]);
     given.is_recorded(record, 11 + m + n)
 }
 
