@@ -3,7 +3,7 @@ ghost use Prim.Native.Nat.{_≤_};
 ghost use lib.ListN.{length};
 use crate::words::word;
 
-// Reads on from place `from` to place `to` of the buffer, and gives where the input ended.
+// Reads on from place `from` to place `to` of the buffer, which must have both, and gives where the input ended.
 pub fn read_on(buffer: &mut [u8], from: usize, to: usize) -> usize
     requires { ⌜ (from ≤ to) × (to ≤ length (now buffer)) ⌝ }
     ensures { λ r. ⌜ (from ≤ r) × (r ≤ to) ⌝ }

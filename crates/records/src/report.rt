@@ -21,7 +21,7 @@ fn print_counts(cases: u64, mismatches: u64) {
     io::write_all(1, b" mismatches\n");
 }
 
-// The line of a call, whose counts stand at place i.
+// The line of a call, whose counts must stand at place i.
 pub fn print_call(name: &[u8], cases: &[u64], mismatches: &[u64], i: usize)
     requires { ⌜ (i < length (now cases)) × (i < length (now mismatches)) ⌝ }
 {

@@ -5,10 +5,12 @@ use openrdson_core::Measured;
 use records::Answer;
 use records::bits;
 
+// A float, by its bits.
 pub fn float(x: f64) -> Answer {
     Answer::whole(bits(x))
 }
 
+// An area or a volume, or why there is none.
 pub fn measured(given: Measured) -> Answer {
     match given {
         Measured::Refused(why) => Answer::refused(why.number() as u64),
@@ -16,6 +18,7 @@ pub fn measured(given: Measured) -> Answer {
     }
 }
 
+// Yes is 1, no is 0.
 pub fn judged(given: Judged) -> Answer {
     match given {
         Judged::Refused(why) => Answer::refused(why.number() as u64),
@@ -23,6 +26,7 @@ pub fn judged(given: Judged) -> Answer {
     }
 }
 
+// Four bounds, by their bits, or why there are none.
 pub fn bounded(given: Bounded) -> Answer {
     match given {
         Bounded::Refused(why) => Answer::refused(why.number() as u64),

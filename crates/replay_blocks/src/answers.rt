@@ -66,6 +66,7 @@ fn outside() -> Answer {
     Answer::refused(u64::MAX)
 }
 
+// 0 where nothing is against the blocks.
 pub fn checked(given: Check) -> Answer {
     match given {
         Check::Refused(why) => Answer::refused(why.number() as u64),
@@ -73,6 +74,7 @@ pub fn checked(given: Check) -> Answer {
     }
 }
 
+// Found is 1, not found is 0.
 pub fn looked_up(given: Lookup) -> Answer {
     match given {
         Lookup::Refused(why) => Answer::refused(why.number() as u64),
@@ -116,12 +118,14 @@ pub fn layer_named(given: NamePart, n: usize) -> Answer {
     }
 }
 
+// 1, and for each figure whether it is present and its bits.
 fn figures(height: Figure, thickness: Figure) -> Answer {
     let first = Shown::of(height);
     let second = Shown::of(thickness);
     Answer::given(1, first.has, first.value, second.has, second.value)
 }
 
+// The figures of a layer, or 0 where there is no such layer.
 pub fn of_stack(given: StackLayer) -> Answer {
     match given {
         StackLayer::Refused(why) => Answer::refused(why.number() as u64),
@@ -130,6 +134,7 @@ pub fn of_stack(given: StackLayer) -> Answer {
     }
 }
 
+// 1, and each end's start and count.
 fn ends(bottom: Span, top: Span, n: usize) -> Answer {
     let first = Place::of(n, bottom);
     let second = Place::of(n, top);
@@ -148,6 +153,7 @@ pub fn of_via(given: ViaLayers, n: usize) -> Answer {
     }
 }
 
+// A material's number.
 pub fn numbered(given: Numbered) -> Answer {
     match given {
         Numbered::Refused(why) => Answer::refused(why.number() as u64),
