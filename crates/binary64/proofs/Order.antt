@@ -176,7 +176,7 @@ total-finite s t a b h = le-finite t s b a ∙ over (side s a t b) (side t b s a
     over : (x y : ℕ) → leb x y ≡ false → leb y x ≡ true
     over x y e = le-leb y x (omega (arith, leb-false x y e))
 
-never : {X : Type 0} → false ≡ true → X
+pub never : {X : Type 0} → false ≡ true → X
 never e = absurd (holds false e)
 
 le-self : (x : Float) → (x ≡ nan → ⊥) → T (le x x)

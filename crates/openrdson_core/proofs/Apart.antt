@@ -2,25 +2,23 @@
 use mathlib.Core.Path.{_≡_, refl, sym, ap, _∙_, subst}
 use mathlib.Core.Bool.{Bool, true, false, not, _&&_, _||_, cond}
 use mathlib.Core.List.{List}
-use mathlib.Core.Logic.{_⊎_, inl, inr, ⊎-elim}
+use mathlib.Core.Logic.{_⊎_, ⊎-elim}
 use Prim.Native.Nat.{ℕ, zero, suc, _<_, _≤_}
 use native.Mathlib.Nat.{eq-or-lt-of-le, le-of-suc-le-suc}
 use native.Mathlib.Omega.{arith}
-use lib.Dec.{T}
 use lib.ListN.{length}
 use lib.IntN.{pos}
 use lib.Ieee.{Float, inf, fin, neg, lt, le}
-use borrow.Author.Tests.{not-true}
-use Rattle.lists.specs.Lists.{foldBelow, allBelow}
+use Rattle.lists.specs.Lists.{foldBelow}
 use Rattle.lists.proofs.Scans.{and-false, all-at, all-fails, all-from}
 use Rattle.binary64.specs.Numbers.{_⊕_, _⊖_, _⊗_, at, atMost, abs, larger}
 use Rattle.binary64.specs.Constants.{zero64, tolerance9}
 use Rattle.binary64.proofs.Sizes.{atMost-is}
-use Rattle.binary64.proofs.Order.{both, first, second, le-trans, lt-le, not-lt-le, not-le-lt, le-total, le-refl-left, le-refl-right, le-infinity, infinity-le, atMost-high}
+use Rattle.binary64.proofs.Order.{never, both, first, second, le-trans, lt-le, not-lt-le, not-le-lt, le-total, le-refl-left, le-refl-right, le-infinity, infinity-le}
 use Rattle.binary64.proofs.Differences.{Limit, farther-below, farther-above, abs-swap, difference-most, within-high, within-low, within-both, product-mono, tolerance-above}
 use Rattle.openrdson_core.specs.Points.{pointAt, pointIn, pointsIn}
 use Rattle.openrdson_core.specs.Bounds.{lesser, greater, extendPoint, emptyBbox, isEmpty, width, height, boundsOf}
-use Rattle.openrdson_core.specs.Rectangle.{onCorner, onSomeCorner, allOnCorners, allCornersTaken, fillsCorners, fillsBounds, isRectangle}
+use Rattle.openrdson_core.specs.Rectangle.{onCorner, onSomeCorner, allCornersTaken, fillsCorners, fillsBounds, isRectangle}
 use Rattle.openrdson_core.specs.Apart.{pointsWithin, areApart, toleranceWithin, threeApart}
 use Rattle.openrdson_core.specs.declared.bounds.Bbox.{Bbox}
 use Rattle.openrdson_core.proofs.Corners.{four-corners}
@@ -229,9 +227,6 @@ off-in-x left right low high p q = rw (p, q)
 
 off-in-y : (left right low high : Bool) → low ≡ false → high ≡ false → (left && low || right && low || right && high || left && high) ≡ false
 off-in-y left right low high p q = sym (four-corners left right low high) ∙ rw (p, q) (and-false (left || right))
-
-pub never : {X : Type 0} → false ≡ true → X
-never e = absurd (subst T (sym e) tt)
 
 parts : (x y z : Bool) → (not x && not y && not z) ≡ true → (x ≡ false) × (y ≡ false) × (z ≡ false)
 parts false false false e = (refl, refl, refl)

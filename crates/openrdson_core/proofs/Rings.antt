@@ -1,5 +1,5 @@
 -- What the lengths of a ring, and of point lists with a part, tell once they have passed. Assumes nothing.
-use mathlib.Core.Path.{_≡_, sym}
+use mathlib.Core.Path.{_≡_}
 use Prim.Native.Nat.{ℕ, _+_, _≤_}
 use mathlib.Core.List.{List}
 use lib.Dec.{eqb, leb}
@@ -7,7 +7,7 @@ use lib.ListN.{length}
 use mathlib.Core.Bool.{_&&_}
 use lib.Ieee.{Float, binary64, ofBits, le}
 use borrow.Author.Tests.{eqb-true, leb-true}
-use Rattle.lists.specs.Answer.{Answer, given, unless}
+use Rattle.lists.specs.Answer.{given, unless}
 use Rattle.lists.proofs.Answers.{passed, passed-then}
 use Rattle.lists.proofs.Scans.{all-same}
 use Rattle.binary64.specs.Numbers.{at, abs}

@@ -31,8 +31,8 @@ pub fn is_axis_aligned_rectangle(xs: &[f64], ys: &[f64]) -> Judged
     }
 }
 
-// Whether three points show, without the bounds, that a ring in range is no rectangle. The limits are that of a coordinate, and a
-// metre, within which a layout lies.
+// Whether three points show, without the bounds, that a ring in range is no rectangle. A smaller limit makes for a smaller tolerance:
+// after the limit of a coordinate comes a metre, within which a layout lies.
 fn is_plainly_none(xs: &[f64], ys: &[f64]) -> bool
     requires { ⌜ length (now xs) ≡ length (now ys) ⌝ }
     ensures { λ r. ⌜ (r ≡ true → (pointsIn (now (xs .entry)) (now (ys .entry)) ≡ true) × (isRectangle (now (xs .entry)) (now (ys .entry)) ≡ false)) ⌝ }
@@ -47,7 +47,8 @@ fn is_plainly_none(xs: &[f64], ys: &[f64]) -> bool
 }
 
 // Whether the points are within the limit, and three of them have three x, or three y, that are farther from each other than the
-// tolerance can be: a side is at most twice the limit. The middle one of the three is then at no side of the bounds.
+// tolerance can be: a side is at most twice the limit. The middle one of the three is then at no side of the bounds. Places 0, 2 and 3
+// show it of a curve, and of a ring whose first three edges turn and do not close a rectangle.
 fn is_off_corners(xs: &[f64], ys: &[f64], limit: f64) -> bool
     requires { ⌜ (length (now xs) ≡ length (now ys)) × (4 ≤ length (now xs)) ⌝ }
     ensures { λ r. ⌜ r ≡ (threeApart (toleranceWithin limit) (now (xs .entry)) (now (ys .entry)) && pointsWithin limit (now (xs .entry)) (now (ys .entry))) ⌝ }
@@ -66,7 +67,7 @@ fn are_apart(a: f64, b: f64, c: f64, t: f64) -> bool
     !binary64::is_within(a - b, t) & !binary64::is_within(b - c, t) & !binary64::is_within(a - c, t)
 }
 
-// The answer from the bounds.
+// The same answer, from the bounds.
 fn judged_by_bounds(xs: &[f64], ys: &[f64]) -> Judged
     ensures { λ r. ⌜ judgedAnswer r ≡ ofRing (now (xs .entry)) (now (ys .entry)) (isRectangle (now (xs .entry)) (now (ys .entry))) ⌝ }
 {
@@ -77,7 +78,7 @@ fn judged_by_bounds(xs: &[f64], ys: &[f64]) -> Judged
     }
 }
 
-// The same of points with these bounds. The tolerance is 1e-9 of the larger side.
+// The same of points in range, with these bounds. The tolerance is 1e-9 of the larger side.
 fn fills_bounds(xs: &[f64], ys: &[f64], bounds: Bbox) -> bool
     requires { ⌜ length (now xs) ≡ length (now ys) ⌝ }
     ensures { λ r. ⌜ r ≡ fillsBounds (now (xs .entry)) (now (ys .entry)) bounds ⌝ }

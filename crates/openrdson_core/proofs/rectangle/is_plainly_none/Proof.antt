@@ -1,9 +1,10 @@
 -- `is_plainly_none` meets its contract: by `no-rectangle`, for each of the two limits. Assumes nothing.
 use native.Mathlib.Omega.{arith}
 use borrow.Author.Needs.{needs}
-use mathlib.Core.Path.{_≡_, sym, _∙_}
+use mathlib.Core.Path.{sym, _∙_}
+use Rattle.binary64.proofs.Order.{never}
 use Rattle.binary64.proofs.Differences.{one-limit, coordinate-limit}
-use Rattle.openrdson_core.proofs.Apart.{never, shown}
+use Rattle.openrdson_core.proofs.Apart.{shown}
 use Rattle.openrdson_core.proofs.rectangle.is_plainly_none.Statement.{statement}
 use Rattle.openrdson_core.proofs.rectangle.is_plainly_none.Tie as tie
 use Rattle.openrdson_core.proofs.rectangle.is_plainly_none.Reads as reads

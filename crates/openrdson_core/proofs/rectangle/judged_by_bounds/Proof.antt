@@ -1,7 +1,7 @@
 -- `judged_by_bounds` meets its contract: the bounds' answer, judged. Assumes nothing.
 use mathlib.Core.Path.{sym, ap, _∙_}
 use Rattle.lists.specs.Answer.{given, mapAnswer}
-use Rattle.lists.proofs.Answers.{map-then, passed-then}
+use Rattle.lists.proofs.Answers.{map-then}
 use Rattle.openrdson_core.specs.Answers.{boundedAnswer}
 use Rattle.openrdson_core.specs.Points.{ringFault}
 use Rattle.openrdson_core.specs.Bounds.{boundsOf}
