@@ -1,3 +1,4 @@
 -- Laws of the definitions, cited by this crate's proofs.
 pub mod Same
 pub mod Lookups
+pub mod SolidCalls
