@@ -72,7 +72,7 @@ pub extern "C" fn openrdson_physical_name(
     start: &mut usize,
     length: &mut usize,
 ) -> u32
-    ensures { λ r. ⌜ GivenAs (spec.nameRead (now (conducting .entry)) (now (via .entry))) (spec.nameInside (now (conducting .entry)) (now (via .entry))) (lookup (now (conducting .entry)) (now (via .entry)) (now (name .entry))) r (spec.theName (now (block .entry)) (now (start .entry)) (now (length .entry))) (spec.theName (now (block .exit)) (now (start .exit)) (now (length .exit))) ⌝ }
+    ensures { λ r. ⌜ GivenAs (spec.NameStands (now (conducting .entry)) (now (via .entry))) (lookup (now (conducting .entry)) (now (via .entry)) (now (name .entry))) r (spec.theName (now (block .entry)) (now (start .entry)) (now (length .entry))) (spec.theName (now (block .exit)) (now (start .exit)) (now (length .exit))) ⌝ }
 {
     give_name(
         openrdson_core::name_place(conducting, via, name),
@@ -114,7 +114,7 @@ pub extern "C" fn openrdson_via_layers(
     top_start: &mut usize,
     top_length: &mut usize,
 ) -> u32
-    ensures { λ r. ⌜ GivenAs (spec.viaRead (now (vias .entry))) (spec.viaInside (now (vias .entry))) (mapAnswer spec.viaGiven (viaLayers (now (vias .entry)) (now (name .entry)))) r (spec.theVia (now (found .entry)) (spec.thePlaces (now («bottom_start» .entry)) (now («bottom_length» .entry))) (spec.thePlaces (now («top_start» .entry)) (now («top_length» .entry)))) (spec.theVia (now (found .exit)) (spec.thePlaces (now («bottom_start» .exit)) (now («bottom_length» .exit))) (spec.thePlaces (now («top_start» .exit)) (now («top_length» .exit)))) ⌝ }
+    ensures { λ r. ⌜ GivenAs (spec.ViaStands (now (vias .entry))) (viaLayers (now (vias .entry)) (now (name .entry))) r (spec.theVia (now (found .entry)) (spec.thePlaces (now («bottom_start» .entry)) (now («bottom_length» .entry))) (spec.thePlaces (now («top_start» .entry)) (now («top_length» .entry)))) (spec.theVia (now (found .exit)) (spec.thePlaces (now («bottom_start» .exit)) (now («bottom_length» .exit))) (spec.thePlaces (now («top_start» .exit)) (now («top_length» .exit)))) ⌝ }
 {
     give_via(
         openrdson_core::via_layers(vias, name),
@@ -133,7 +133,7 @@ pub extern "C" fn openrdson_layer_name(
     start: &mut usize,
     length: &mut usize,
 ) -> u32
-    ensures { λ r. ⌜ GivenAs (spec.bytesAt (now (names .entry))) (spec.placesIn (now (names .entry))) (mapAnswer spec.orEmpty (layerName (now (names .entry)) layer)) r (spec.thePlaces (now (start .entry)) (now (length .entry))) (spec.thePlaces (now (start .exit)) (now (length .exit))) ⌝ }
+    ensures { λ r. ⌜ GivenAs (spec.StandsIf (now (names .entry))) (layerName (now (names .entry)) layer) r (spec.thePlaces (now (start .entry)) (now (length .entry))) (spec.thePlaces (now (start .exit)) (now (length .exit))) ⌝ }
 {
     give_part(openrdson_core::layer_name(names, layer), start, length)
 }
