@@ -41,18 +41,20 @@ pub enum Call {
     BoxZTop,
     PrismZBottom,
     PrismZTop,
+    BoxRegionVolume,
+    PrismRegionVolume,
 }
 
 use Call::*;
 
-pub const CALLS: [Call; 36] = [
+pub const CALLS: [Call; 38] = [
     PolygonSignedArea, PolygonArea, IsCcw, IsAxisAlignedRectangle, BboxFromPoints,
     BoxVolume, PrismVolume, BoxFootprintBbox, PrismFootprintBbox,
     Sqrt, Abs, CeilCapped, NearestCapped,
     CheckBlocks, LookUp, PhysicalName, LayerName, StackLayer, ViaLayers, MaterialNumber, IsMarker,
     CoordinateInRange, ExtentInRange, FigureInRange,
     BboxEmpty, BboxIsEmpty, BboxExtendPoint, BboxExtend, BboxUnion, BboxWidth, BboxHeight, BboxCenter,
-    BoxZBottom, BoxZTop, PrismZBottom, PrismZTop,
+    BoxZBottom, BoxZTop, PrismZBottom, PrismZTop, BoxRegionVolume, PrismRegionVolume,
 ];
 
 /// The calls that are recorded: those on numbers, and those on name blocks and names.
@@ -115,6 +117,8 @@ impl Call {
             BoxZTop => "box_z_top",
             PrismZBottom => "prism_z_bottom",
             PrismZTop => "prism_z_top",
+            BoxRegionVolume => "box_region_volume",
+            PrismRegionVolume => "prism_region_volume",
         }
     }
 
@@ -144,8 +148,8 @@ impl Call {
     pub fn refusals(self) -> &'static [u32] {
         match self {
             PolygonSignedArea | PolygonArea | IsCcw | IsAxisAlignedRectangle | BboxFromPoints => &[16, 2, 1],
-            BoxVolume | BoxFootprintBbox => &[16, 2, 1],
-            PrismVolume | PrismFootprintBbox => &[16, 15, 2, 1],
+            BoxVolume | BoxFootprintBbox | BoxRegionVolume => &[16, 2, 1],
+            PrismVolume | PrismFootprintBbox | PrismRegionVolume => &[16, 15, 2, 1],
             CheckBlocks | StackLayer => &[14, 1],
             LookUp | PhysicalName | LayerName | ViaLayers | MaterialNumber => &[14],
             _ => &[],

@@ -12,12 +12,13 @@ pub type List = Cow<'static, [f64]>;
 /// What a call is given. Parameters are floats by their bits, or whole numbers:
 /// a box its six bounds; a prism z_bottom, z_top, start, count; a method of Bbox the four bounds,
 /// then the other box's or the point; a call on one number, that number; `layer_name`, the layer's number.
-/// Lent are the call's blocks, then the name asked for.
+/// A region has its material, net and polygon too. Lent are the call's blocks, then the name asked for.
 pub struct Case {
     pub call: Call,
     pub xs: List,
     pub ys: List,
     pub params: [u64; 8],
+    pub region: [u32; 3],
     pub lent: Vec<Lent>,
 }
 
@@ -64,10 +65,11 @@ impl Case {
         match call {
             PolygonSignedArea | PolygonArea | IsCcw | IsAxisAlignedRectangle | BboxFromPoints => {
                 let (xs, ys) = rings::lists(r, number);
-                Case { call, xs: xs.into(), ys: ys.into(), params: [0; 8], lent: vec![] }
+                Case { call, xs: xs.into(), ys: ys.into(), params: [0; 8], region: [0; 3], lent: vec![] }
             }
             BoxVolume | BoxFootprintBbox => solids::boxed(call, r),
             PrismVolume | PrismFootprintBbox => solids::prism(call, r, number),
+            BoxRegionVolume | PrismRegionVolume => solids::region(call, r, number),
             Sqrt => Case::of_numbers(call, &[roots::draw(r, number)]),
             Abs => Case::of_numbers(call, &[numbers::any(r)]),
             CheckBlocks | LookUp | PhysicalName | LayerName | StackLayer | ViaLayers | MaterialNumber | IsMarker => {
@@ -100,7 +102,7 @@ impl Case {
         for (param, x) in params.iter_mut().zip(numbers) {
             *param = x.to_bits();
         }
-        Case { call, xs: List::Borrowed(&[]), ys: List::Borrowed(&[]), params, lent: vec![] }
+        Case { call, xs: List::Borrowed(&[]), ys: List::Borrowed(&[]), params, region: [0; 3], lent: vec![] }
     }
 
     pub fn float(&self, place: usize) -> f64 {

@@ -89,7 +89,7 @@ impl fmt::Display for Shown<'_> {
     fn fmt(&self, f: &mut fmt::Formatter) -> fmt::Result {
         let case = self.case;
         writeln!(f, "compare --call {} --seed {} --number {}", case.call.name(), self.seed, self.number)?;
-        writeln!(f, "  parameters {:x?}", case.params)?;
+        writeln!(f, "  parameters {:x?} region {:x?}", case.params, case.region)?;
         show_list(f, "xs", &case.xs)?;
         show_list(f, "ys", &case.ys)?;
         for lent in &case.lent {

@@ -47,6 +47,15 @@ extern "C" {
         z_bottom: f64, z_top: f64, start: u32, count: u32,
         xs: List, nx: usize, ys: List, ny: usize, volume: Out,
     ) -> u32;
+    pub fn openrdson_box_region_volume(
+        material: u32, net: u32, polygon: u32,
+        min_x: f64, min_y: f64, max_x: f64, max_y: f64, z_bottom: f64, z_top: f64,
+        xs: List, nx: usize, ys: List, ny: usize, volume: Out,
+    ) -> u32;
+    pub fn openrdson_prism_region_volume(
+        material: u32, net: u32, polygon: u32, z_bottom: f64, z_top: f64, start: u32, count: u32,
+        xs: List, nx: usize, ys: List, ny: usize, volume: Out,
+    ) -> u32;
     pub fn openrdson_box_footprint_bbox(
         min_x: f64, min_y: f64, max_x: f64, max_y: f64, z_bottom: f64, z_top: f64,
         xs: List, nx: usize, ys: List, ny: usize,
