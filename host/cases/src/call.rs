@@ -156,6 +156,19 @@ impl Call {
         }
     }
 
+    /// The kinds of answers that are counted; each must be drawn.
+    pub fn kinds(self) -> &'static [&'static str] {
+        match self {
+            CheckBlocks => &["fine", "a conductor's figure", "a diffusion's figure"],
+            PhysicalName => &["none", "conducting", "via"],
+            LayerName => &["none", "found"],
+            MaterialNumber => &["none", "conductor", "diffusion", "via"],
+            call if call.gives() == [Output::Truth] => &["false", "true"],
+            StackLayer | ViaLayers => &["none", "found"],
+            _ => &[],
+        }
+    }
+
     /// The values it gives, in order.
     pub fn gives(self) -> &'static [Output] {
         use Output::*;

@@ -19,6 +19,17 @@ pub fn answer(case: &Case) -> Answer {
     answer
 }
 
+/// The place of an answer among its call's kinds, if it has one.
+pub fn kind(case: &Case, answer: &Answer) -> Option<usize> {
+    match case.call {
+        CheckBlocks => paper::blocks::checked(answer.status, case.block(3)),
+        _ if answer.status != 0 || case.call.kinds().is_empty() => None,
+        LayerName => Some((answer.values[1] != 0) as usize),
+        MaterialNumber => Some(paper::blocks::material_kind(answer.values[0], case.block(0), case.block(1))),
+        _ => Some(answer.values[0] as usize),
+    }
+}
+
 fn of_numbers(case: &Case) -> Answer {
     match paper::status(case) {
         0 => of_the_rust(case),

@@ -69,6 +69,27 @@ fn values(case: &Case) -> Result<Vec<u64>, u32> {
     }
 }
 
+/// 0 where the six blocks are accepted, 1 where a conductor's figure is refused, else 2; none of damaged blocks.
+pub fn checked(status: u32, conductors: &[u8]) -> Option<usize> {
+    let rows = rows(Kind::Stack, conductors)?;
+    match status {
+        0 => Some(0),
+        1 => Some(if figures(&rows).is_err() { 1 } else { 2 }),
+        _ => None,
+    }
+}
+
+/// 0 for none, 1 a conductor's number, 2 a diffusion's, 3 a via's.
+pub fn material_kind(number: u64, conductors: &[u8], diffusions: &[u8]) -> usize {
+    let count = |block: &[u8]| block[0] as u64 + 256 * block[1] as u64;
+    match number {
+        0 => 0,
+        n if n <= count(conductors) => 1,
+        n if n <= count(conductors) + count(diffusions) => 2,
+        _ => 3,
+    }
+}
+
 /// "A block has exactly its counted length", and its cells are sound; none if it is damaged.
 fn rows(kind: Kind, block: &[u8]) -> Option<Vec<Row<'_>>> {
     let (key, value) = match kind {
