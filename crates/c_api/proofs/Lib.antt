@@ -2,3 +2,4 @@
 pub mod Same
 pub mod Lookups
 pub mod SolidCalls
+pub mod Copies

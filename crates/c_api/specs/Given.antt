@@ -1,7 +1,11 @@
 -- What a call gives back to C: its status, and its value through references.
 use Prim.Native.Nat.{ℕ}
 use mathlib.Core.Path.{_≡_}
+use mathlib.Core.List.{List}
+use lib.ListN.{take}
+use lib.ListN as list
 use Rattle.lists.specs.Answer as answer
+use Rattle.lists.specs.Lists.{put}
 
 -- The answer a as C sees it: r is the refusal's number, 0 for none. The lent value was old and is new: what the call gives, or as it was where it is refused.
 pub record Given {A : Type 0} (a : answer.Answer A) (r : ℕ) (old new : A) : Type 0 where
@@ -17,3 +21,8 @@ Said says (answer.given a) old new = says a new
 pub record GivenAs {A B : Type 0} (says : A → B → Type 0) (a : answer.Answer A) (r : ℕ) (old new : B) : Type 0 where
   pub status : r ≡ answer.status a
   pub value : Said says a old new
+
+-- Bytes copied to a lent list: r is how many there are; the list begins with as many of them as it has room for, and is as it was past them.
+pub record Copied (bytes : List ℕ) (r : ℕ) (old new : List ℕ) : Type 0 where
+  pub length : r ≡ list.length bytes
+  pub copy : new ≡ put old 0 (take (list.length old) bytes)

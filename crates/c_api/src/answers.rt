@@ -5,7 +5,7 @@ ghost use Rattle.openrdson_core.specs.Answers.{checkAnswer, measuredAnswer, jud
 ghost use Rattle.openrdson_core.specs.Bounds.{theBbox};
 ghost use Rattle.openrdson_core.specs.Maps.{lookupAnswer};
 ghost use Rattle.openrdson_core.specs.Tech.{figureValue, stackLayerAnswer};
-ghost use Rattle.c_api.specs.Given.{Given};
+ghost use Rattle.c_api.specs.Given.{Copied, Given};
 ghost use Rattle.c_api.specs.Lookups as spec;
 use openrdson_core::Bounded;
 use openrdson_core::Check;
@@ -244,4 +244,18 @@ pub fn give_via(
             0
         }
     }
+}
+
+// Copies the first bytes, as many as the copy has room for, and gives how many there are.
+pub fn give_bytes(bytes: &[u8], copy: &mut [u8]) -> usize
+    ensures { λ r. ⌜ Copied (now (bytes .entry)) r (now (copy .entry)) (now (copy .exit)) ⌝ }
+{
+    let n = bytes.len();
+    let room = copy.len();
+    let mut i = 0;
+    while i < n && i < room {
+        copy[i] = bytes[i];
+        i += 1;
+    }
+    n
 }

@@ -2,10 +2,11 @@
 ghost use mathlib.Core.Path.{_≡_};
 ghost use Rattle.lists.specs.Answer.{status, mapAnswer};
 ghost use Rattle.openrdson_core.specs.Layout.{isMarker, layerName};
-ghost use Rattle.openrdson_core.specs.Maps.{lookup, isSome};
+ghost use Rattle.openrdson_core.specs.Maps.{lookup, isSome, partOf};
 ghost use Rattle.openrdson_core.specs.Tech.{blocksFault, materialNumber, stackLayer, viaLayers};
-ghost use Rattle.c_api.specs.Given.{Given, GivenAs};
+ghost use Rattle.c_api.specs.Given.{Copied, Given, GivenAs};
 ghost use Rattle.c_api.specs.Lookups as spec;
+use crate::answers::give_bytes;
 use crate::answers::give_check;
 use crate::answers::give_found;
 use crate::answers::give_layer;
@@ -80,6 +81,19 @@ pub extern "C" fn openrdson_physical_name(
         start,
         length,
     )
+}
+
+// The same name as bytes; none unless it is found.
+#[no_mangle]
+pub extern "C" fn openrdson_copy_physical_name<'a>(
+    conducting: &'a [u8],
+    via: &'a [u8],
+    name: &[u8],
+    copy: &mut [u8],
+) -> usize
+    ensures { λ r. ⌜ Copied (partOf (lookup (now (conducting .entry)) (now (via .entry)) (now (name .entry)))) r (now (copy .entry)) (now (copy .exit)) ⌝ }
+{
+    give_bytes(openrdson_core::physical_name(conducting, via, name), copy)
 }
 
 #[no_mangle]

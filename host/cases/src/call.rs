@@ -43,11 +43,12 @@ pub enum Call {
     PrismZTop,
     BoxRegionVolume,
     PrismRegionVolume,
+    CopyPhysicalName,
 }
 
 use Call::*;
 
-pub const CALLS: [Call; 38] = [
+pub const CALLS: [Call; 39] = [
     PolygonSignedArea, PolygonArea, IsCcw, IsAxisAlignedRectangle, BboxFromPoints,
     BoxVolume, PrismVolume, BoxFootprintBbox, PrismFootprintBbox,
     Sqrt, Abs, CeilCapped, NearestCapped,
@@ -55,6 +56,7 @@ pub const CALLS: [Call; 38] = [
     CoordinateInRange, ExtentInRange, FigureInRange,
     BboxEmpty, BboxIsEmpty, BboxExtendPoint, BboxExtend, BboxUnion, BboxWidth, BboxHeight, BboxCenter,
     BoxZBottom, BoxZTop, PrismZBottom, PrismZTop, BoxRegionVolume, PrismRegionVolume,
+    CopyPhysicalName,
 ];
 
 /// The calls that are recorded: those on numbers, and those on name blocks and names.
@@ -119,6 +121,7 @@ impl Call {
             PrismZTop => "prism_z_top",
             BoxRegionVolume => "box_region_volume",
             PrismRegionVolume => "prism_region_volume",
+            CopyPhysicalName => "copy_physical_name",
         }
     }
 
@@ -130,7 +133,7 @@ impl Call {
     pub fn blocks(self) -> &'static [Kind] {
         match self {
             CheckBlocks => &[Kind::LayerNames, Kind::Map, Kind::Map, Kind::Stack, Kind::Stack, Kind::Vias],
-            LookUp | PhysicalName => &[Kind::Map, Kind::Map],
+            LookUp | PhysicalName | CopyPhysicalName => &[Kind::Map, Kind::Map],
             LayerName => &[Kind::LayerNames],
             StackLayer => &[Kind::Stack],
             ViaLayers => &[Kind::Vias],
@@ -141,7 +144,10 @@ impl Call {
 
     /// Whether a name is asked for, after the blocks.
     pub fn asks_name(self) -> bool {
-        matches!(self, LookUp | PhysicalName | StackLayer | ViaLayers | MaterialNumber | IsMarker)
+        match self {
+            LookUp | PhysicalName | CopyPhysicalName | StackLayer | ViaLayers | MaterialNumber | IsMarker => true,
+            _ => false,
+        }
     }
 
     /// The refusals it has, in document 01's order.
@@ -161,7 +167,7 @@ impl Call {
         match self {
             CheckBlocks => &["fine", "a conductor's figure", "a diffusion's figure"],
             PhysicalName => &["none", "conducting", "via"],
-            LayerName => &["none", "found"],
+            LayerName | CopyPhysicalName => &["none", "found"],
             MaterialNumber => &["none", "conductor", "diffusion", "via"],
             call if call.gives() == [Output::Truth] => &["false", "true"],
             StackLayer | ViaLayers => &["none", "found"],
@@ -181,6 +187,8 @@ impl Call {
             BboxCenter => &[Float; 2],
             CheckBlocks => &[],
             PhysicalName => &[Number, Whole, Whole],
+            // The length, then the bytes of the copy.
+            CopyPhysicalName => &[Whole; 6],
             LayerName => &[Whole, Whole],
             StackLayer => &[Truth, Truth, Float, Truth, Float],
             ViaLayers => &[Truth, Whole, Whole, Whole, Whole],

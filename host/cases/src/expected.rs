@@ -25,6 +25,7 @@ pub fn kind(case: &Case, answer: &Answer) -> Option<usize> {
         CheckBlocks => paper::blocks::checked(answer.status, case.block(3)),
         _ if answer.status != 0 || case.call.kinds().is_empty() => None,
         LayerName => Some((answer.values[1] != 0) as usize),
+        CopyPhysicalName => Some((answer.values[0] != 0) as usize),
         MaterialNumber => Some(paper::blocks::material_kind(answer.values[0], case.block(0), case.block(1))),
         _ => Some(answer.values[0] as usize),
     }

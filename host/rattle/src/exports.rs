@@ -90,6 +90,9 @@ extern "C" {
         conducting: Bytes, n1: usize, via: Bytes, n2: usize, name: Bytes, n3: usize,
         block: *mut u32, start: *mut usize, length: *mut usize,
     ) -> u32;
+    pub fn openrdson_copy_physical_name(
+        conducting: Bytes, n1: usize, via: Bytes, n2: usize, name: Bytes, n3: usize, copy: *mut u8, n4: usize,
+    ) -> usize;
     pub fn openrdson_layer_name(names: Bytes, n1: usize, layer: i16, start: *mut usize, length: *mut usize) -> u32;
     pub fn openrdson_stack_layer(
         block: Bytes, n1: usize, name: Bytes, n2: usize,

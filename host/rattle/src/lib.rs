@@ -38,6 +38,7 @@ pub fn answer(case: &Case) -> Said {
             CheckBlocks | LookUp | PhysicalName | LayerName | StackLayer | ViaLayers | MaterialNumber => {
                 lookups::status(case, &mut outputs)
             }
+            CopyPhysicalName => return plain(lookups::copied(case)),
             IsMarker => return whole(openrdson_is_marker(case.name().as_ptr(), case.name().len()) as u64),
             Sqrt => return float(openrdson_sqrt(x)),
             Abs => return float(openrdson_abs(x)),
