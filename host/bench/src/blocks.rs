@@ -1,0 +1,219 @@
+//! Lookups: the Rust asks its maps and lists, made before; Rattle reads and checks the blocks in each call.
+use crate::{alone, row, Effort};
+use cases::blocks::{Layer, Rows, Via};
+use oracle::core::layout::LayoutIR;
+use oracle::core::tech::{self, Conductor, Diffusion, LayerMap, TechStack};
+use oracle::geometry::{assemble_stack, reach};
+use rattle::exports::*;
+use std::collections::BTreeMap;
+use std::hint::black_box;
+
+const ROUNDS: usize = 100;
+
+/// The same layers in the form of each side: so many rows in each of the six blocks.
+struct Layers {
+    layout: LayoutIR,
+    map: LayerMap,
+    stack: TechStack,
+    /// Layer names, conducting, via, conductors, diffusions, vias.
+    blocks: [Vec<u8>; 6],
+    numbers: Vec<i16>,
+    logical: Vec<String>,
+    conductors: Vec<String>,
+    vias: Vec<String>,
+}
+
+fn named(prefix: &str, n: usize) -> Vec<String> {
+    (0..n).map(|i| format!("{prefix}{i}")).collect()
+}
+
+fn bytes(name: &String) -> Vec<u8> {
+    name.clone().into_bytes()
+}
+
+/// The height and the thickness of layer i.
+fn figures(i: usize) -> [Option<f64>; 2] {
+    [Some(i as f64 * 1e-6), Some(0.5e-6)]
+}
+
+fn layers(n: usize) -> Layers {
+    let (logical, logical_vias) = (named("net_M", n), named("net_VIA", n));
+    let stack = stack(n);
+    let conductors: Vec<String> = stack.conductors.iter().map(|layer| layer.name.clone()).collect();
+    let vias: Vec<String> = stack.vias.iter().map(|via| via.name.clone()).collect();
+    let numbers: Vec<i16> = (0..n as i16).map(|i| 7 * i - 100).collect();
+    let pairs = |keys: &[String], values: &[String]| keys.iter().cloned().zip(values.iter().cloned()).collect();
+    let layer_names = numbers.iter().copied().zip(logical.iter().cloned()).collect();
+    let map = LayerMap { conducting: pairs(&logical, &conductors), via: pairs(&logical_vias, &vias) };
+    let layout = LayoutIR { layer_names, ..LayoutIR::default() };
+    let blocks = blocks(&layout, &map, &stack);
+    Layers { layout, map, stack, blocks, numbers, logical, conductors, vias }
+}
+
+/// Via i goes from conductor i to the next.
+fn stack(n: usize) -> TechStack {
+    let (conductors, diffusions, vias) = (named("M", n), named("DIFF", n), named("VIA", n));
+    let mut stack = TechStack::default();
+    for i in 0..n {
+        let [height, thickness] = figures(i);
+        let [bottom_layer, top_layer] = [i, (i + 1) % n].map(|layer| Some(conductors[layer].clone()));
+        stack.conductors.push(Conductor { name: conductors[i].clone(), height, thickness, ..Conductor::default() });
+        stack.diffusions.push(Diffusion { name: diffusions[i].clone(), height, thickness, ..Diffusion::default() });
+        stack.vias.push(tech::Via { name: vias[i].clone(), bottom_layer, top_layer, ..tech::Via::default() });
+    }
+    stack
+}
+
+fn blocks(layout: &LayoutIR, map: &LayerMap, stack: &TechStack) -> [Vec<u8>; 6] {
+    let mapped = |map: &BTreeMap<String, String>| Rows::Map(map.iter().map(|(k, v)| (bytes(k), bytes(v))).collect());
+    let layer = |name: &String, height, thickness| Layer { name: bytes(name), height, thickness };
+    let end = |name: &Option<String>| name.as_ref().map(bytes);
+    let via = |via: &tech::Via| Via { name: bytes(&via.name), bottom: end(&via.bottom_layer), top: end(&via.top_layer) };
+    let rows = [
+        Rows::LayerNames(layout.layer_names.iter().map(|(number, name)| (*number, bytes(name))).collect()),
+        mapped(&map.conducting),
+        mapped(&map.via),
+        Rows::Stack(stack.conductors.iter().map(|c| layer(&c.name, c.height, c.thickness)).collect()),
+        Rows::Stack(stack.diffusions.iter().map(|d| layer(&d.name, d.height, d.thickness)).collect()),
+        Rows::Vias(stack.vias.iter().map(via).collect()),
+    ];
+    rows.map(|rows| rows.bytes())
+}
+
+pub fn rows() {
+    for n in [16, 256] {
+        let all = layers(n);
+        look_up(n, &all);
+        physical_name(n, &all);
+        layer_name(n, &all);
+        stack_layer(n, &all);
+        via_layers(n, &all);
+        material_number(n, &all);
+        check_blocks(n, &all);
+        is_marker(n, &all);
+    }
+}
+
+/// Asks for each of the names on both sides, and prints the time for one.
+fn asked<T>(name: String, asked: &[T], rust: impl Fn(&T), rattle: impl Fn(&T)) {
+    let effort = Effort { rounds: ROUNDS, calls: 1, values: asked.len() };
+    row(&name, effort, || black_box(asked).iter().for_each(&rust), || black_box(asked).iter().for_each(&rattle));
+}
+
+fn look_up(n: usize, all: &Layers) {
+    let [_, conducting, via, ..] = &all.blocks;
+    let rust = |name: &String| {
+        let map = black_box(&all.map);
+        black_box(map.conducting.get(name).or_else(|| map.via.get(name)).is_some());
+    };
+    let rattle = |name: &String| {
+        let mut found = false;
+        let (c, v) = (conducting.as_ptr(), via.as_ptr());
+        unsafe { openrdson_look_up(c, conducting.len(), v, via.len(), name.as_ptr(), name.len(), &mut found) };
+        assert!(black_box(found));
+    };
+    asked(format!("look_up, maps of {n}"), &all.logical, rust, rattle);
+}
+
+fn physical_name(n: usize, all: &Layers) {
+    let [_, conducting, via, ..] = &all.blocks;
+    let rust = |name: &String| {
+        let map = black_box(&all.map);
+        black_box(map.conducting.get(name).or_else(|| map.via.get(name)));
+    };
+    let rattle = |name: &String| {
+        let (c, v) = (conducting.as_ptr(), via.as_ptr());
+        let (mut block, mut start, mut length) = (0, 0, 0);
+        let at = (&mut block, &mut start, &mut length);
+        unsafe {
+            openrdson_physical_name(c, conducting.len(), v, via.len(), name.as_ptr(), name.len(), at.0, at.1, at.2)
+        };
+        assert!(black_box((block, start, length)).0 == 1);
+    };
+    asked(format!("physical_name, maps of {n}"), &all.logical, rust, rattle);
+}
+
+fn layer_name(n: usize, all: &Layers) {
+    let names = &all.blocks[0];
+    let rust = |number: &i16| {
+        black_box(black_box(&all.layout).layer_name(*number));
+    };
+    let rattle = |number: &i16| {
+        let (mut start, mut length) = (0, 0);
+        unsafe { openrdson_layer_name(names.as_ptr(), names.len(), *number, &mut start, &mut length) };
+        assert!(black_box((start, length)).1 > 0);
+    };
+    asked(format!("layer_name, block of {n}"), &all.numbers, rust, rattle);
+}
+
+fn stack_layer(n: usize, all: &Layers) {
+    let block = &all.blocks[3];
+    let rust = |name: &String| {
+        black_box(black_box(&all.stack).conductor(name).map(|layer| (layer.height, layer.thickness)));
+    };
+    let rattle = |name: &String| {
+        let (mut found, mut has, mut figures) = (false, [false; 2], [0.0; 2]);
+        let [has_height, has_thickness] = &mut has;
+        let [height, thickness] = &mut figures;
+        let (b, s) = (block.as_ptr(), name.as_ptr());
+        unsafe {
+            openrdson_stack_layer(
+                b, block.len(), s, name.len(), &mut found, has_height, height, has_thickness, thickness,
+            )
+        };
+        assert!(black_box((found, has, figures)).0);
+    };
+    asked(format!("stack_layer, block of {n}"), &all.conductors, rust, rattle);
+}
+
+fn via_layers(n: usize, all: &Layers) {
+    let block = &all.blocks[5];
+    let rust = |name: &String| {
+        black_box(black_box(&all.stack).via(name).map(|via| (&via.bottom_layer, &via.top_layer)));
+    };
+    let rattle = |name: &String| {
+        let (mut found, mut places) = (false, [0; 4]);
+        let [a, b, c, d] = &mut places;
+        unsafe { openrdson_via_layers(block.as_ptr(), block.len(), name.as_ptr(), name.len(), &mut found, a, b, c, d) };
+        assert!(black_box((found, places)).0);
+    };
+    asked(format!("via_layers, block of {n}"), &all.vias, rust, rattle);
+}
+
+/// The Rust's table of material names is made before, by `assemble_stack`.
+fn material_number(n: usize, all: &Layers) {
+    let [.., conductors, diffusions, vias] = &all.blocks;
+    let (model, _) = assemble_stack(&LayoutIR::default(), &all.stack, &LayerMap::default());
+    let rust = |name: &String| {
+        let place = black_box(&model.material_names).iter().position(|n| n == name);
+        black_box(place.map(|i| (i + 1) as u32));
+    };
+    let rattle = |name: &String| {
+        let mut material = 0;
+        let [a, b, c] = [conductors, diffusions, vias].map(|block| block.as_ptr());
+        let [na, nb, nc] = [conductors, diffusions, vias].map(Vec::len);
+        unsafe { openrdson_material_number(a, na, b, nb, c, nc, name.as_ptr(), name.len(), &mut material) };
+        assert!(black_box(material) > 0);
+    };
+    asked(format!("material_number, conductor, blocks of {n}"), &all.conductors, &rust, &rattle);
+    asked(format!("material_number, via, blocks of {n}"), &all.vias, &rust, &rattle);
+}
+
+fn check_blocks(n: usize, all: &Layers) {
+    let [a, b, c, d, e, f] = all.blocks.each_ref().map(|block| (block.as_ptr(), block.len()));
+    let rattle = || {
+        let status = unsafe { openrdson_check_blocks(a.0, a.1, b.0, b.1, c.0, c.1, d.0, d.1, e.0, e.1, f.0, f.1) };
+        assert!(black_box(status) == 0);
+    };
+    alone(&format!("check_blocks, six of {n}"), Effort { rounds: ROUNDS, calls: 20, values: 1 }, rattle);
+}
+
+fn is_marker(n: usize, all: &Layers) {
+    let rust = |name: &String| {
+        black_box(reach::is_marker(black_box(name)));
+    };
+    let rattle = |name: &String| {
+        black_box(unsafe { openrdson_is_marker(name.as_ptr(), name.len()) });
+    };
+    asked(format!("is_marker, {n} names"), &all.logical, rust, rattle);
+}
