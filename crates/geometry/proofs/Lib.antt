@@ -2,3 +2,4 @@
 pub mod RegionLaws
 pub mod ExtrudeLaws
 pub mod VolumeLaws
+pub mod GeometryShapes
