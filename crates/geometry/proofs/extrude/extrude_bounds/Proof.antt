@@ -6,10 +6,6 @@ use Rattle.geometry.proofs.ExtrudeLaws.{bounds-solid}
 use borrow.Author.Needs.{needs}
 use Rattle.geometry.proofs.extrude.extrude_bounds.Statement.{statement}
 use Rattle.geometry.proofs.extrude.extrude_bounds.Tie as tie
-use Rattle.geometry.proofs.extrude.extrude_bounds.Reads as reads
-use Rattle.geometry.proofs.extrude.extrude_bounds.Lts as lts
-use Rattle.geometry.proofs.extrude.box_of.Reads as box-of-reads
-use Rattle.openrdson_core.proofs.bounds.Bbox.from_points.Reads as from-points-reads
 
 from-points-requires : tie.Need-from-points-requires
 from-points-requires c κs = search needs

@@ -7,12 +7,6 @@ use Rattle.geometry.specs.Extrude.{extrudeBox}
 use borrow.Author.Needs.{needs}
 use Rattle.geometry.proofs.extrude.extrude_box.Statement.{statement}
 use Rattle.geometry.proofs.extrude.extrude_box.Tie as tie
-use Rattle.geometry.proofs.extrude.extrude_box.Reads as reads
-use Rattle.geometry.proofs.extrude.extrude_box.Lts as lts
-use Rattle.geometry.proofs.extrude.box_of.Reads as box-of-reads
-use Rattle.geometry.proofs.extrude.region_of.Reads as region-of-reads
-use Rattle.openrdson_core.proofs.points.Point.is_in_range.Reads as is-in-range-reads
-use Rattle.openrdson_core.proofs.points.Point.new.Reads as new-reads
 
 new-requires : tie.Need-new-requires
 new-requires c κs = search needs

@@ -8,11 +8,6 @@ use Rattle.geometry.proofs.ExtrudeLaws.{ring-region, size-refused}
 use borrow.Author.Needs.{needs}
 use Rattle.geometry.proofs.extrude.extrude_polygon.Statement.{statement}
 use Rattle.geometry.proofs.extrude.extrude_polygon.Tie as tie
-use Rattle.geometry.proofs.extrude.extrude_polygon.Reads as reads
-use Rattle.geometry.proofs.extrude.extrude_polygon.Lts as lts
-use Rattle.geometry.proofs.extrude.extrude_ring.Reads as extrude-ring-reads
-use Rattle.geometry.proofs.extrude.region_of.Reads as region-of-reads
-use Rattle.openrdson_core.proofs.ring_size.Reads as ring-size-reads
 
 ring-size-requires : tie.Need-ring-size-requires
 ring-size-requires c κs = search needs

@@ -6,10 +6,6 @@ use Rattle.geometry.proofs.ExtrudeLaws.{judged-solid, box-solid}
 use borrow.Author.Needs.{needs}
 use Rattle.geometry.proofs.extrude.extrude_ring.Statement.{statement}
 use Rattle.geometry.proofs.extrude.extrude_ring.Tie as tie
-use Rattle.geometry.proofs.extrude.extrude_ring.Reads as reads
-use Rattle.geometry.proofs.extrude.extrude_ring.Lts as lts
-use Rattle.geometry.proofs.extrude.extrude_bounds.Reads as extrude-bounds-reads
-use Rattle.openrdson_core.proofs.is_axis_aligned_rectangle.Reads as is-axis-aligned-rectangle-reads
 
 is-axis-aligned-rectangle-requires : tie.Need-is-axis-aligned-rectangle-requires
 is-axis-aligned-rectangle-requires c κs = search needs

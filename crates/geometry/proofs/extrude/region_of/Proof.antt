@@ -7,10 +7,6 @@ use Rattle.geometry.specs.Extrude.{regionOf}
 use borrow.Author.Needs.{needs}
 use Rattle.geometry.proofs.extrude.region_of.Statement.{statement}
 use Rattle.geometry.proofs.extrude.region_of.Tie as tie
-use Rattle.geometry.proofs.extrude.region_of.Reads as reads
-use Rattle.geometry.proofs.extrude.region_of.Lts as lts
-use Rattle.binary64.proofs.coordinate_in_range.Reads as coordinate-in-range-reads
-use Rattle.geometry.proofs.regions.labelled.Reads as labelled-reads
 
 enum-known-extruded : tie.Need-enum-known-extruded
 enum-known-extruded c = search needs

@@ -5,9 +5,6 @@ use Rattle.geometry.proofs.RegionLaws.{material-outside, box-row, kind-
 use borrow.Author.Needs.{needs}
 use Rattle.geometry.proofs.regions.region_at.Statement.{statement}
 use Rattle.geometry.proofs.regions.region_at.Tie as tie
-use Rattle.geometry.proofs.regions.region_at.Reads as reads
-use Rattle.geometry.proofs.regions.region_at.Lts as lts
-use Rattle.geometry.proofs.regions.labelled.Reads as labelled-reads
 
 mul-material : tie.Need-mul-material
 mul-material c = search needs

@@ -6,10 +6,6 @@ use Rattle.geometry.proofs.VolumeLaws.{row-refused, row-given}
 use borrow.Author.Needs.{needs}
 use Rattle.geometry.proofs.volume.row_volume.Statement.{statement}
 use Rattle.geometry.proofs.volume.row_volume.Tie as tie
-use Rattle.geometry.proofs.volume.row_volume.Reads as reads
-use Rattle.geometry.proofs.volume.row_volume.Lts as lts
-use Rattle.geometry.proofs.regions.region_at.Reads as region-at-reads
-use Rattle.openrdson_core.proofs.solids.SolidRegion.volume.Reads as volume-reads
 
 region-at-requires : tie.Need-region-at-requires
 region-at-requires c κs = search needs

@@ -11,9 +11,6 @@ use Rattle.geometry.proofs.VolumeLaws.{total-none, total-more, total-al
 use borrow.Author.Needs.{needs}
 use Rattle.geometry.proofs.volume.total_of_rows.Statement.{statement}
 use Rattle.geometry.proofs.volume.total_of_rows.Tie as tie
-use Rattle.geometry.proofs.volume.total_of_rows.Reads as reads
-use Rattle.geometry.proofs.volume.total_of_rows.Lts as lts
-use Rattle.geometry.proofs.volume.row_volume.Reads as row-volume-reads
 
 abbrev Inv-loop : tie.InvT-loop
 Inv-loop kinds min-x min-y max-x max-y z-bottom z-top starts counts materials nets polygons xs ys sum₀ i₀ sum i = (i ≤ length kinds) × (given sum ≡ totalTo (theRegions kinds min-x min-y max-x max-y z-bottom z-top starts counts materials nets polygons) xs ys i)

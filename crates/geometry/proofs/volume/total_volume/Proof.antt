@@ -7,10 +7,6 @@ use Rattle.geometry.proofs.VolumeLaws.{regions-uneven, points-uneven, m
 use borrow.Author.Needs.{needs}
 use Rattle.geometry.proofs.volume.total_volume.Statement.{statement}
 use Rattle.geometry.proofs.volume.total_volume.Tie as tie
-use Rattle.geometry.proofs.volume.total_volume.Reads as reads
-use Rattle.geometry.proofs.volume.total_volume.Lts as lts
-use Rattle.geometry.proofs.regions.are_regions_even.Reads as are-regions-even-reads
-use Rattle.geometry.proofs.volume.total_of_rows.Reads as total-of-rows-reads
 
 are-regions-even-requires : tie.Need-are-regions-even-requires
 are-regions-even-requires c κs = search needs
