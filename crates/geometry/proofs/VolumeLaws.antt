@@ -1,21 +1,22 @@
--- The total volume, row by row and refusal by refusal. Assumes nothing.
+-- The total volume: a row, the rows in order, and the lists before them. Assumes nothing.
 use Prim.Native.Nat.{ℕ, zero, suc, _+_, _-_, _≤_, _<_}
 use mathlib.Core.Path.{_≡_, refl, sym, ap, _∙_}
-use mathlib.Core.Bool.{true, false}
+use mathlib.Core.Bool.{Bool}
 use mathlib.Core.List.{List}
 use native.Mathlib.Omega.{arith}
 use native.Mathlib.Nat.{add-zero, add-suc}
 use native.Mathlib.Numerals.{add-one}
 use lib.ListN.{length}
 use lib.Ieee.{Float}
-use borrow.Author.Tests.{eq-eqb, ne-eqb, le-leb, lt-leb}
 use Rattle.lists.specs.Answer.{Answer, refused, given, andThen}
+use Rattle.lists.proofs.Answers.{passed}
 use Rattle.binary64.specs.Numbers.{_⊕_}
 use Rattle.binary64.specs.Constants.{zero64}
 use Rattle.openrdson_core.specs.Solids.{ofSolid, volume}
 use Rattle.openrdson_core.specs.declared.solids.SolidRegion.{SolidRegion}
-use Rattle.geometry.specs.Regions.{Regions, evenRegions, regionAt}
-use Rattle.geometry.specs.Volumes.{rowVolume, totalTo, totalVolume}
+use Rattle.geometry.specs.Regions.{Regions, evenRegions, Even, regionAt}
+use Rattle.geometry.specs.Volumes.{rowVolume, totalTo, listsFault, totalVolume}
+use Rattle.geometry.proofs.RegionLaws.{even-of}
 
 module _ (r : Regions) (xs ys : List Float) where
   -- ---- one row
@@ -52,24 +53,16 @@ module _ (r : Regions) (xs ys : List Float) where
       let d : i + 1 + (m - (i + 1)) ≡ m = omega arith in
       stays (i + 1) (m - (i + 1)) (stop-here i e f) ∙ ap (totalTo r xs ys) d
 
-  -- ---- the call: 16, 16, 2, 2, then the rows
+  -- ---- the call: the lists, whose test of evenness is b, then the rows
 
-  pub regions-uneven : evenRegions r ≡ false → refused 16 ≡ totalVolume r xs ys
-  unfolding totalVolume
-  regions-uneven e = rw e
+  module _ {b : Bool} (even : b ≡ evenRegions r) where
+    pub lists-refused : {n : ℕ} → listsFault b (length (r .kinds)) (length xs) (length ys) ≡ refused n → refused n ≡ totalVolume r xs ys
+    unfolding totalVolume
+    lists-refused e = rw (sym even, e)
 
-  pub points-uneven : evenRegions r ≡ true → (length xs ≡ length ys → ⊥) → refused 16 ≡ totalVolume r xs ys
-  unfolding totalVolume
-  points-uneven e p = rw (e, ne-eqb _ _ p)
+    pub lists-even : listsFault b (length (r .kinds)) (length xs) (length ys) ≡ given tt → Even r
+    lists-even e = even-of r (sym even ∙ passed b 16 _ e .0)
 
-  pub many-regions : evenRegions r ≡ true → length xs ≡ length ys → 4096 < length (r .kinds) → refused 2 ≡ totalVolume r xs ys
-  unfolding totalVolume
-  many-regions e p k = rw (e, eq-eqb _ _ p, lt-leb _ _ k)
-
-  pub many-points : evenRegions r ≡ true → length xs ≡ length ys → length (r .kinds) ≤ 4096 → 2097152 < length xs → refused 2 ≡ totalVolume r xs ys
-  unfolding totalVolume
-  many-points e p k l = rw (e, eq-eqb _ _ p, le-leb _ _ k, lt-leb _ _ l)
-
-  pub total-given : {a : Answer Float} → evenRegions r ≡ true → length xs ≡ length ys → length (r .kinds) ≤ 4096 → length xs ≤ 2097152 → a ≡ totalTo r xs ys (length (r .kinds)) → a ≡ totalVolume r xs ys
-  unfolding totalVolume
-  total-given e p k l t = rw (e, eq-eqb _ _ p, le-leb _ _ k, le-leb _ _ l) t
+    pub lists-fine : {a : Answer Float} → listsFault b (length (r .kinds)) (length xs) (length ys) ≡ given tt → a ≡ totalTo r xs ys (length (r .kinds)) → a ≡ totalVolume r xs ys
+    unfolding totalVolume
+    lists-fine e t = rw (sym even, e) t

@@ -1,5 +1,6 @@
 -- The total volume of a region list.
 use Prim.Native.Nat.{ℕ, zero, suc}
+use mathlib.Core.Bool.{Bool}
 use mathlib.Core.List.{List}
 use lib.Dec.{eqb, leb}
 use lib.ListN.{length}
@@ -20,11 +21,16 @@ abbrev pub totalTo : Regions → List Float → List Float → ℕ → Answer Fl
 totalTo r xs ys zero = given zero64
 totalTo r xs ys (suc n) = andThen (totalTo r xs ys n) (λ sum. andThen (rowVolume r xs ys n) (λ v. given (sum ⊕ v)))
 
+-- of a region list, even or not, of so many rows, and of point lists of m and n entries: 16, 2
+abbrev pub listsFault : Bool → ℕ → ℕ → ℕ → Answer (Unit {0})
+listsFault even rows m n =
+    unless even 16
+    (unless (eqb m n) 16
+    (unless (leb rows 4096) 2
+    (unless (leb m 2097152) 2
+    (given tt))))
+
 -- 16, 2 for the regions and the points, then row by row
 unfoldable pub totalVolume : Regions → List Float → List Float → Answer Float
 totalVolume r xs ys =
-    unless (evenRegions r) 16
-    (unless (eqb (length xs) (length ys)) 16
-    (unless (leb (length (r .kinds)) 4096) 2
-    (unless (leb (length xs) 2097152) 2
-    (totalTo r xs ys (length (r .kinds))))))
+    andThen (listsFault (evenRegions r) (length (r .kinds)) (length xs) (length ys)) (λ _. totalTo r xs ys (length (r .kinds)))

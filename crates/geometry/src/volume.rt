@@ -2,12 +2,13 @@
 ghost use mathlib.Core.Path.{_≡_};
 ghost use Prim.Native.Nat.{_<_};
 ghost use lib.ListN.{length};
-ghost use Rattle.openrdson_core.specs.Answers.{measuredAnswer};
+ghost use Rattle.openrdson_core.specs.Answers.{checkAnswer, measuredAnswer};
 ghost use Rattle.geometry.specs.Regions.{theRegions, Even};
-ghost use Rattle.geometry.specs.Volumes.{rowVolume, totalTo, totalVolume};
+ghost use Rattle.geometry.specs.Volumes.{rowVolume, totalTo, listsFault, totalVolume};
 use crate::regions::Built;
 use crate::regions::are_regions_even;
 use crate::regions::region_at;
+use openrdson_core::Check;
 use openrdson_core::Measured;
 use openrdson_core::Refusal;
 
@@ -107,6 +108,25 @@ fn total_of_rows(
     Measured::Value(sum)
 }
 
+// 16 and 2 of a region list, even or not, of so many rows, and of point lists of m and n entries.
+fn lists_check(even: bool, rows: usize, m: usize, n: usize) -> Check
+    ensures { λ r. ⌜ checkAnswer r ≡ listsFault even rows m n ⌝ }
+{
+    if !even {
+        return Check::Refused(Refusal::UnequalLists);
+    }
+    if m != n {
+        return Check::Refused(Refusal::UnequalLists);
+    }
+    if rows > 4096 {
+        return Check::Refused(Refusal::ListTooLong);
+    }
+    if m > 2097152 {
+        return Check::Refused(Refusal::ListTooLong);
+    }
+    Check::Fine
+}
+
 // The total volume of a region list, whose prisms are parts of the point lists; 16, 2, then row by row 15, 2, 1.
 pub fn total_volume(
     kinds: &[u8],
@@ -140,32 +160,24 @@ pub fn total_volume(
         nets.len(),
         polygons.len(),
     );
-    if !even {
-        return Measured::Refused(Refusal::UnequalLists);
+    let checked = lists_check(even, kinds.len(), xs.len(), ys.len());
+    match checked {
+        Check::Refused(why) => Measured::Refused(why),
+        Check::Fine => total_of_rows(
+            kinds,
+            min_x,
+            min_y,
+            max_x,
+            max_y,
+            z_bottom,
+            z_top,
+            starts,
+            counts,
+            materials,
+            nets,
+            polygons,
+            xs,
+            ys,
+        ),
     }
-    if xs.len() != ys.len() {
-        return Measured::Refused(Refusal::UnequalLists);
-    }
-    if kinds.len() > 4096 {
-        return Measured::Refused(Refusal::ListTooLong);
-    }
-    if xs.len() > 2097152 {
-        return Measured::Refused(Refusal::ListTooLong);
-    }
-    total_of_rows(
-        kinds,
-        min_x,
-        min_y,
-        max_x,
-        max_y,
-        z_bottom,
-        z_top,
-        starts,
-        counts,
-        materials,
-        nets,
-        polygons,
-        xs,
-        ys,
-    )
 }
