@@ -17,6 +17,7 @@ pub use area::polygon_area;
 pub use area::polygon_signed_area;
 pub use bounds::Bbox;
 pub use bounds::Bounded;
+pub use bytes::is_same;
 pub use layout::NamePart;
 pub use layout::is_marker;
 pub use layout::layer_name;

@@ -12,23 +12,7 @@ use openrdson_core::NamePart;
 use openrdson_core::NamePlace;
 use openrdson_core::Span;
 use openrdson_core::ViaLayers;
-
-// a and b hold the same bytes.
-fn is_same(a: &[u8], b: &[u8]) -> bool
-    ensures { λ r. ⌜ r ≡ same (now (a .entry)) (now (b .entry)) ⌝ }
-{
-    if a.len() != b.len() {
-        return false;
-    }
-    let mut i = 0;
-    while i < a.len() {
-        if a[i] != b[i] {
-            return false;
-        }
-        i += 1;
-    }
-    true
-}
+use openrdson_core::is_same;
 
 // The part of the block is this name.
 fn part_is(block: &[u8], start: usize, count: usize, name: &[u8]) -> bool
