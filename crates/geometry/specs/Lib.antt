@@ -3,3 +3,5 @@ pub mod Regions
 pub mod Extrude
 pub mod Volumes
 pub mod Answers
+pub mod Ranges
+pub mod Plans

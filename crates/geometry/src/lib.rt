@@ -1,5 +1,7 @@
 // Extruding polygons into boxes and prisms, the region list, and its volume (the original's geometry crate).
 mod extrude;
+mod plans;
+mod ranges;
 mod regions;
 mod volume;
 
