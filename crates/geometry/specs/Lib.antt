@@ -5,3 +5,5 @@ pub mod Volumes
 pub mod Answers
 pub mod Ranges
 pub mod Plans
+pub mod Table
+pub mod Polygons

@@ -6,7 +6,9 @@ use mathlib.Core.List.{List}
 use mathlib.Core.Option.{Option, some, none}
 use lib.IntN.{ℤ}
 use lib.Ieee.{Float, le}
-use Rattle.openrdson_core.specs.Blocks.{layerNamesOk, mapOk, stackOk, viasOk}
+use Rattle.openrdson_core.specs.Bytes.{unpad}
+use Rattle.openrdson_core.specs.Blocks.{valueAt, layerNamesOk, mapOk, stackOk, viasOk}
+use Rattle.openrdson_core.specs.declared.blocks.Cell.the-variants.{Number, Name}
 use Rattle.openrdson_core.specs.Maps.{inMap, orElse}
 use Rattle.openrdson_core.specs.Tech.{materialOf}
 use Rattle.openrdson_core.specs.Layout.{nameOfLayer, isMarker}
@@ -62,3 +64,7 @@ withName b (some name) = planOfName b name
 
 unfoldable pub planOf : Blocks → ℤ → Plan
 planOf b layer = withName b (nameOfLayer (b .names) layer)
+
+-- of row i of the layer names
+abbrev pub rowPlan : Blocks → ℕ → Plan
+rowPlan b i = planOfName b (unpad (valueAt Number Name (b .names) i))

@@ -1,8 +1,10 @@
 // Extruding polygons into boxes and prisms, the region list, and its volume (the original's geometry crate).
 mod extrude;
 mod plans;
+mod polygons;
 mod ranges;
 mod regions;
+mod table;
 mod volume;
 
 pub use extrude::Extruded;
