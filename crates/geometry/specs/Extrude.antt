@@ -1,6 +1,6 @@
 -- Extruding a footprint between two heights.
 use Prim.Native.Nat.{ℕ}
-use mathlib.Core.Bool.{Bool, _&&_, cond}
+use mathlib.Core.Bool.{_&&_, cond}
 use mathlib.Core.List.{List}
 use lib.ListN.{length}
 use lib.Ieee.{Float}
@@ -22,17 +22,20 @@ boxOf b z0 z1 = Box (b .«min_x») (b .«min_y») (b .«max_x») (b .«max_y») 
 unfoldable pub solidOf : List Float → List Float → Float → Float → ℕ → ℕ → Solid
 solidOf xs ys z0 z1 start count = cond (isRectangle xs ys) (boxOf (boundsOf xs ys) z0 z1) (Prism z0 z1 start count)
 
+-- a solid between two heights, as a region with no polygon: 1 for the heights, 15 for the material
+unfoldable pub regionOf : Solid → Float → Float → ℕ → ℕ → Answer SolidRegion
+regionOf s z0 z1 material net =
+    unless (heightsIn z0 z1) 1
+    (unless (materialOk material) 15
+    (given (theRegion material net noPolygon s)))
+
 -- 16, 2, 1 with the heights last, 15 for the material
 unfoldable pub extrudePolygon : List Float → List Float → Float → Float → ℕ → ℕ → Answer SolidRegion
 extrudePolygon xs ys z0 z1 material net =
-    andThen (ringFault xs ys) (λ _.
-    unless (heightsIn z0 z1) 1
-    (unless (materialOk material) 15
-    (given (theRegion material net noPolygon (solidOf xs ys z0 z1 0 (length xs))))))
+    andThen (ringFault xs ys) (λ _. regionOf (solidOf xs ys z0 z1 0 (length xs)) z0 z1 material net)
 
 -- 1 for the six numbers, 15 for the material
 unfoldable pub extrudeBox : Bbox → Float → Float → ℕ → ℕ → Answer SolidRegion
 extrudeBox b z0 z1 material net =
-    unless (pointIn (thePoint (b .«min_x») (b .«min_y»)) && pointIn (thePoint (b .«max_x») (b .«max_y»)) && heightsIn z0 z1) 1
-    (unless (materialOk material) 15
-    (given (theRegion material net noPolygon (boxOf b z0 z1))))
+    unless (pointIn (thePoint (b .«min_x») (b .«min_y»)) && pointIn (thePoint (b .«max_x») (b .«max_y»))) 1
+    (regionOf (boxOf b z0 z1) z0 z1 material net)

@@ -1,5 +1,6 @@
 // Extruding a footprint between two heights.
 ghost use mathlib.Core.Path.{_≡_};
+ghost use Rattle.lists.specs.Answer.{andThen};
 ghost use Rattle.openrdson_core.specs.Points.{ofRing};
 ghost use Rattle.openrdson_core.specs.Bounds.{boundsOf};
 ghost use Rattle.geometry.specs.Extrude as spec;
@@ -10,12 +11,14 @@ use crate::regions::NO_POLYGON;
 use crate::regions::labelled;
 use openrdson_core::Bbox;
 use openrdson_core::Bounded;
+use openrdson_core::Check;
 use openrdson_core::Judged;
 use openrdson_core::Material;
 use openrdson_core::Point;
 use openrdson_core::Refusal;
 use openrdson_core::Solid;
 use openrdson_core::is_axis_aligned_rectangle;
+use openrdson_core::ring_size;
 
 // A solid, or why there is none.
 pub enum Extruded {
@@ -76,18 +79,10 @@ pub fn extrude_ring(
     }
 }
 
-// A polygon between two heights, as a region of a material and a net; 16, 2, 1, 15.
-pub fn extrude_polygon(
-    xs: &[f64],
-    ys: &[f64],
-    z_bottom: f64,
-    z_top: f64,
-    material: Material,
-    net: u32,
-) -> Built
-    ensures { λ r. ⌜ builtAnswer r ≡ spec.extrudePolygon (now (xs .entry)) (now (ys .entry)) «z_bottom» «z_top» (material .0) net ⌝ }
+// A solid as a region of a material and a net, where its heights are in range; 1, 15.
+fn region_of(extruded: Extruded, z_bottom: f64, z_top: f64, material: Material, net: u32) -> Built
+    ensures { λ r. ⌜ builtAnswer r ≡ andThen (solidAnswer extruded) (λ s. spec.regionOf s «z_bottom» «z_top» (material .0) net) ⌝ }
 {
-    let extruded = extrude_ring(xs, ys, z_bottom, z_top, 0, xs.len() as u32);
     match extruded {
         Extruded::Refused(why) => Built::Refused(why),
         Extruded::Solid(solid) => {
@@ -102,18 +97,37 @@ pub fn extrude_polygon(
     }
 }
 
+// A polygon between two heights, as a region of a material and a net; 16, 2, 1, 15.
+pub fn extrude_polygon(
+    xs: &[f64],
+    ys: &[f64],
+    z_bottom: f64,
+    z_top: f64,
+    material: Material,
+    net: u32,
+) -> Built
+    ensures { λ r. ⌜ builtAnswer r ≡ spec.extrudePolygon (now (xs .entry)) (now (ys .entry)) «z_bottom» «z_top» (material .0) net ⌝ }
+{
+    let size = ring_size(xs.len(), ys.len());
+    match size {
+        Check::Refused(why) => Built::Refused(why),
+        Check::Fine => {
+            let count = xs.len() as u32;
+            let extruded = extrude_ring(xs, ys, z_bottom, z_top, 0, count);
+            region_of(extruded, z_bottom, z_top, material, net)
+        }
+    }
+}
+
 // A box of explicit bounds, as a region of a material and a net; 1, 15.
 pub fn extrude_box(sides: Bbox, z_bottom: f64, z_top: f64, material: Material, net: u32) -> Built
     ensures { λ r. ⌜ builtAnswer r ≡ spec.extrudeBox sides «z_bottom» «z_top» (material .0) net ⌝ }
 {
     let low = Point::new(sides.min_x, sides.min_y);
     let high = Point::new(sides.max_x, sides.max_y);
-    let heights = binary64::coordinate_in_range(z_bottom) & binary64::coordinate_in_range(z_top);
-    if !(low.is_in_range() & high.is_in_range() & heights) {
+    if !(low.is_in_range() & high.is_in_range()) {
         return Built::Refused(Refusal::NumberOutOfRange);
     }
-    if material.0 > LARGEST_MATERIAL {
-        return Built::Refused(Refusal::OutsideList);
-    }
-    Built::Region(labelled(material.0, net, NO_POLYGON, box_of(sides, z_bottom, z_top)))
+    let solid = box_of(sides, z_bottom, z_top);
+    region_of(Extruded::Solid(solid), z_bottom, z_top, material, net)
 }

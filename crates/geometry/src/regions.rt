@@ -87,18 +87,23 @@ pub fn region_at(
     let polygon = polygons[i];
     let z_bottom = z_bottom[i];
     let z_top = z_top[i];
-    if kinds[i] == 0 {
+    let kind = kinds[i];
+    if kind == 0 {
+        let min_x = min_x[i];
+        let min_y = min_y[i];
+        let max_x = max_x[i];
+        let max_y = max_y[i];
         let solid = Solid::Box {
-            min_x: min_x[i],
-            min_y: min_y[i],
-            max_x: max_x[i],
-            max_y: max_y[i],
+            min_x,
+            min_y,
+            max_x,
+            max_y,
             z_bottom,
             z_top,
         };
         return Built::Region(labelled(material, net, polygon, solid));
     }
-    if kinds[i] != 1 {
+    if kind != 1 {
         return Built::Refused(Refusal::OutsideList);
     }
     let start = starts[i];
