@@ -4,6 +4,7 @@ mod plans;
 mod polygons;
 mod ranges;
 mod regions;
+mod rows;
 mod table;
 mod volume;
 
