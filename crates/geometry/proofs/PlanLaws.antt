@@ -5,7 +5,7 @@ use mathlib.Core.List.{List}
 use mathlib.Core.Option.{Option, some, none}
 use Prim.Native.Nat.{ℕ}
 use lib.Ieee.{Float, le}
-use Rattle.openrdson_core.specs.Maps.{inMap, orElse}
+use Rattle.openrdson_core.specs.Maps.{inMap}
 use Rattle.openrdson_core.specs.Layout.{isMarker}
 use Rattle.openrdson_core.specs.Tech.{materialOf}
 use Rattle.openrdson_core.specs.declared.solids.Material.{Material}

@@ -7,3 +7,4 @@ pub mod Ranges
 pub mod Plans
 pub mod Table
 pub mod Polygons
+pub mod Stack

@@ -3,13 +3,13 @@ use Prim.Native.Nat.{ℕ}
 use mathlib.Core.Path.{_≡_}
 use mathlib.Core.Bool.{Bool, true, cond}
 use mathlib.Core.List.{List}
-use mathlib.Core.Option.{Option, some, none}
+use mathlib.Core.Option.{Option, some, none, orElse}
 use lib.IntN.{ℤ}
 use lib.Ieee.{Float, le}
 use Rattle.openrdson_core.specs.Bytes.{unpad}
 use Rattle.openrdson_core.specs.Blocks.{valueAt, layerNamesOk, mapOk, stackOk, viasOk}
 use Rattle.openrdson_core.specs.declared.blocks.Cell.the-variants.{Number, Name}
-use Rattle.openrdson_core.specs.Maps.{inMap, orElse}
+use Rattle.openrdson_core.specs.Maps.{inMap}
 use Rattle.openrdson_core.specs.Tech.{materialOf}
 use Rattle.openrdson_core.specs.Layout.{nameOfLayer, isMarker}
 use Rattle.geometry.specs.Ranges.{Range, stackRange}
@@ -55,6 +55,7 @@ withPhysical b (some physical) = planOfPhysical b physical
 
 -- of a logical name: 3 for a marker; the conducting map is asked first, then the via map
 unfoldable pub planOfName : Blocks → List ℕ → Plan
+unfolding orElse
 planOfName b name = cond (isMarker name) (Skipped 3) (withPhysical b (orElse (inMap (b .conducting) name) (inMap (b .via) name)))
 
 -- 2 where the layer has no name

@@ -1,10 +1,10 @@
 -- The range of heights of a physical name (document 01, "Stacking").
 use Prim.Native.Nat.{ℕ}
 use mathlib.Core.List.{List}
-use mathlib.Core.Option.{Option, some, none}
+use mathlib.Core.Option.{Option, some, none, Option·map}
 use lib.Ieee.{Float}
 use Rattle.binary64.specs.Numbers.{_⊕_}
-use Rattle.openrdson_core.specs.Blocks.{mapOption, entryOf}
+use Rattle.openrdson_core.specs.Blocks.{entryOf}
 use Rattle.openrdson_core.specs.Tech.{StackFigures, figuresOf, ViaNames, viaNamesOf}
 use Rattle.openrdson_core.specs.declared.blocks.Cell.the-variants.{Figures, Ends}
 use Rattle.geometry.specs.declared.ranges.ZRange.{ZRange}
@@ -31,10 +31,10 @@ firstRange none other = other
 firstRange (some c) other = fromTo (c .height) (c .thickness)
 
 unfoldable pub diffusionRange : List ℕ → List ℕ → Range
-diffusionRange diffusions name = figuresRange (mapOption figuresOf (entryOf Figures diffusions name))
+diffusionRange diffusions name = figuresRange (Option·map figuresOf (entryOf Figures diffusions name))
 
 unfoldable pub layerRange : List ℕ → List ℕ → List ℕ → Range
-layerRange conductors diffusions name = firstRange (mapOption figuresOf (entryOf Figures conductors name)) (diffusionRange diffusions name)
+layerRange conductors diffusions name = firstRange (Option·map figuresOf (entryOf Figures conductors name)) (diffusionRange diffusions name)
 
 -- the range of the layer at an end of a via, where it names one
 abbrev pub endRange : List ℕ → List ℕ → Option (List ℕ) → Range
@@ -56,7 +56,7 @@ rangeBy conductors diffusions name none = layerRange conductors diffusions name
 rangeBy conductors diffusions name (some v) = viaRange conductors diffusions v
 
 unfoldable pub stackRange : List ℕ → List ℕ → List ℕ → List ℕ → Range
-stackRange conductors diffusions vias name = rangeBy conductors diffusions name (mapOption viaNamesOf (entryOf Ends vias name))
+stackRange conductors diffusions vias name = rangeBy conductors diffusions name (Option·map viaNamesOf (entryOf Ends vias name))
 
 -- what the enum says
 abbrev pub rangeValue : ZRange → Range

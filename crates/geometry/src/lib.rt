@@ -5,6 +5,7 @@ mod polygons;
 mod ranges;
 mod regions;
 mod rows;
+mod stack;
 mod table;
 mod volume;
 
@@ -17,4 +18,5 @@ pub use regions::LARGEST_MATERIAL;
 pub use regions::NO_POLYGON;
 pub use regions::are_regions_even;
 pub use regions::region_at;
+pub use stack::Stacked;
 pub use volume::total_volume;

@@ -51,7 +51,7 @@ pub fn polygon_solid(
     z_bottom: f64,
     z_top: f64,
 ) -> Solid
-    requires { ⌜ spec.partFault (now xs) (now ys) start count ≡ given tt ⌝ }
+    requires { ⌜ (length (now xs) ≡ length (now ys)) × (spec.partFault (now xs) (now ys) start count ≡ given tt) ⌝ }
     ensures { λ r. ⌜ r ≡ spec.partSolid (now (xs .entry)) (now (ys .entry)) start count «z_bottom» «z_top» ⌝ }
 {
     let first = start as usize;

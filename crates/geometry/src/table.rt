@@ -5,6 +5,7 @@ ghost use Prim.Native.Nat.{_+_};
 ghost use lib.ListN.{length};
 ghost use Rattle.openrdson_core.specs.Blocks.{layerNamesOk, count};
 ghost use Rattle.geometry.specs.Plans.{theBlocks, Sound, rowPlan};
+ghost use Rattle.geometry.specs.Stack.{rowsOf};
 ghost use Rattle.geometry.specs.Table as spec;
 use crate::plans::Plan;
 use crate::plans::plan_of_name;
@@ -22,6 +23,16 @@ impl Plan {
         match self {
             Plan::Skipped(outcome) => outcome,
             Plan::Between(_, _, _) => 0,
+        }
+    }
+
+    // How many regions it gives.
+    pub fn rows(self) -> usize
+        ensures { λ r. ⌜ r ≡ rowsOf self ⌝ }
+    {
+        match self {
+            Plan::Skipped(_) => 0,
+            Plan::Between(_, _, _) => 1,
         }
     }
 

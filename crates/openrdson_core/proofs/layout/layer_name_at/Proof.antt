@@ -4,10 +4,11 @@ use native.Mathlib.Omega.{arith}
 use mathlib.Core.Path.{sym, ap, _∙_}
 use mathlib.Core.Bool.{true}
 use Rattle.lists.proofs.Fills.{run-room}
-use Rattle.lists.proofs.Parts.{part-lent}
+use Rattle.lists.proofs.Parts.{part-lent, lent-length}
+use Rattle.openrdson_core.specs.Bytes.{nameLength}
 use Rattle.openrdson_core.specs.Blocks.{count}
 use Rattle.openrdson_core.specs.declared.blocks.Cell.the-variants.{Number, Name}
-use Rattle.openrdson_core.proofs.BlockLaws.{Counted, counted, lent-length}
+use Rattle.openrdson_core.proofs.BlockLaws.{Counted, counted}
 use Rattle.openrdson_core.proofs.MapLaws.{name-at}
 use borrow.Author.Needs.{needs}
 use Rattle.openrdson_core.proofs.layout.layer_name_at.Statement.{statement}
@@ -61,7 +62,7 @@ part-result-end c = let w : Counted Number Name (c .before .before .before .befo
 
 returns : tie.Need-returns
 returns c = let w : Counted Number Name (c .before .before .before .before .before .args .s .now) = counted Number Name true (c .before .before .before .before .before .args .s .now) (c .before .before .before .before .before .pre .0) in let room = run-room (count (c .before .before .before .before .before .args .s .now)) 32 (c .before .before .before .before .before .args .i) (c .before .before .before .before .before .pre .1) in part-lent (c .before .before .before .before .before .args .s .now) (2 + c .before .before .before .rows .result * 2 + c .before .before .before .before .before .args .i * 32) (c .before .name-length .result)
-    ∙ name-at Number (c .before .before .before .before .before .args .s .now) (c .before .before .before .before .before .args .i) (2 + c .before .before .before .rows .result * 2 + c .before .before .before .before .before .args .i * 32) (c .before .name-length .result) (ap (λ (k : ℕ). 2 + k * 2 + c .before .before .before .before .before .args .i * 32) (c .before .before .before .rows .ensures)) (c .before .name-length .ensures .0) (omega (arith, c .before .name-length .ensures .1, lent-length (c .before .before .before .before .before .args .s .now) (2 + c .before .before .before .rows .result * 2 + c .before .before .before .before .before .args .i * 32) 32 (let w : Counted Number Name (c .before .before .before .before .before .args .s .now) = counted Number Name true (c .before .before .before .before .before .args .s .now) (c .before .before .before .before .before .pre .0) in let room = run-room (count (c .before .before .before .before .before .args .s .now)) 32 (c .before .before .before .before .before .args .i) (c .before .before .before .before .before .pre .1) in omega (arith, c .before .before .before .rows .ensures))))
+    ∙ name-at Number (c .before .before .before .before .before .args .s .now) (c .before .before .before .before .before .args .i) (2 + c .before .before .before .rows .result * 2 + c .before .before .before .before .before .args .i * 32) (c .before .name-length .result) (ap (λ (k : ℕ). 2 + k * 2 + c .before .before .before .before .before .args .i * 32) (c .before .before .before .rows .ensures)) (c .before .name-length .ensures .0 ∙ ap nameLength (part-lent (c .before .before .before .before .before .args .s .now) (2 + c .before .before .before .rows .result * 2 + c .before .before .before .before .before .args .i * 32) 32)) (omega (arith, c .before .name-length .ensures .1, lent-length (c .before .before .before .before .before .args .s .now) (2 + c .before .before .before .rows .result * 2 + c .before .before .before .before .before .args .i * 32) 32 (let w : Counted Number Name (c .before .before .before .before .before .args .s .now) = counted Number Name true (c .before .before .before .before .before .args .s .now) (c .before .before .before .before .before .pre .0) in let room = run-room (count (c .before .before .before .before .before .args .s .now)) 32 (c .before .before .before .before .before .args .i) (c .before .before .before .before .before .pre .1) in omega (arith, c .before .before .before .rows .ensures))))
 
 pub layer-name-at-spec : {M : Type 1} → statement M
 layer-name-at-spec =
