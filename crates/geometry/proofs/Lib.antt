@@ -5,4 +5,7 @@ pub mod VolumeLaws
 pub mod RangeLaws
 pub mod PlanLaws
 pub mod TableLaws
+pub mod PolygonLaws
+pub mod RowLaws
+pub mod StackLaws
 pub mod GeometryShapes
