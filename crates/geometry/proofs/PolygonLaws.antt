@@ -46,15 +46,15 @@ module _ (xs ys : List Float) (start count : ℕ) where
         rw (part-lent xs start count, part-lent ys start count)
         (passed (leb (start + count) (length xs)) 15 (ringFault (part start count xs) (part start count ys)) fine .1)
 
-    pub part-solid : {s : Solid} {z0 z1 : Float} → given s ≡ ofRing lentXs lentYs (solidOf lentXs lentYs z0 z1 start count) → s ≡ partSolid xs ys start count z0 z1
+    pub part-solid : (z0 z1 : Float) {s : Solid} → given s ≡ ofRing lentXs lentYs (solidOf lentXs lentYs z0 z1 start count) → s ≡ partSolid xs ys start count z0 z1
     unfolding partSolid
-    part-solid {s} {z0} {z1} e =
+    part-solid z0 z1 e =
         given-same (e ∙ rw (no-fault) refl)
         ∙ ap (λ (l : List Float). solidOf l lentYs z0 z1 start count) (part-lent xs start count)
         ∙ ap (λ (l : List Float). solidOf (part start count xs) l z0 z1 start count) (part-lent ys start count)
 
-    pub part-never : {X : Type 0} {n : ℕ} {s : Solid} → refused n ≡ ofRing lentXs lentYs s → X
-    part-never {s = s} e = refused-given (e ∙ rw (no-fault) (refl {x = given s}))
+    pub part-never : {X : Type 0} {n : ℕ} (s : Solid) → refused n ≡ ofRing lentXs lentYs s → X
+    part-never s e = refused-given {a = s} (e ∙ rw no-fault)
 
 module _ (xs ys : List Float) (starts counts : List ℕ) where
   abbrev step : Unit {0} → ℕ → Answer (Unit {0})

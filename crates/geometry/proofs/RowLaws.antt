@@ -1,6 +1,6 @@
 -- Rows written in a region list. Assumes nothing.
 use Prim.Native.Nat.{ℕ, _+_, _≤_, _<_}
-use mathlib.Core.Path.{_≡_, refl, sym, ap, _∙_}
+use mathlib.Core.Path.{_≡_, refl, sym, ap, _∙_, subst}
 use mathlib.Core.List.{List, [], _∷_, _++_, map}
 use native.Mathlib.Omega.{arith}
 use native.Mathlib.Nat.{zero-add}
@@ -42,9 +42,6 @@ map-join : {A B : Type 0} (f : A → B) (a b : List A) → map f (a ++ b) ≡ ma
 map-join f [] b = refl
 map-join f (x ∷ a) b = ap (λ (l : List _). f x ∷ l) (map-join f a b)
 
-column-none : {A : Type 0} (l : List A) → put l 0 [] ≡ l
-column-none l = put-none l 0
-
 -- what a list has, a further run of rows, and its length
 column-more : {A : Type 0} (f : SolidRegion → A) (l : List A) (a b : List SolidRegion) (k : ℕ) → k ≡ length a → k + length b ≤ length l
     → put (put l 0 (map f a)) k (map f b) ≡ put l 0 (map f (a ++ b))
@@ -55,10 +52,10 @@ column-more f l a b k e h =
 column-length : {A : Type 0} (f : SolidRegion → A) (l : List A) (a : List SolidRegion) → length a ≤ length l → length (put l 0 (map f a)) ≡ length l
 column-length f l a h = put-length l 0 (map f a) (omega (arith, length-map a f))
 
-pub no-rows : (r : Regions) → putRegions r 0 [] ≡ r
-no-rows r =
-    same-regions (column-none (r .kinds)) (column-none (r .minX)) (column-none (r .minY)) (column-none (r .maxX)) (column-none (r .maxY)) (column-none (r .zBottom))
-    (column-none (r .zTop)) (column-none (r .starts)) (column-none (r .counts)) (column-none (r .materials)) (column-none (r .nets)) (column-none (r .polygons))
+pub no-rows : (r : Regions) (k : ℕ) → putRegions r k [] ≡ r
+no-rows r k =
+    same-regions (put-none (r .kinds) k) (put-none (r .minX) k) (put-none (r .minY) k) (put-none (r .maxX) k) (put-none (r .maxY) k) (put-none (r .zBottom) k)
+    (put-none (r .zTop) k) (put-none (r .starts) k) (put-none (r .counts) k) (put-none (r .materials) k) (put-none (r .nets) k) (put-none (r .polygons) k)
 
 module _ (r : Regions) (w : Even r) where
   pub more-rows : (a b : List SolidRegion) (k : ℕ) → k ≡ length a → k + length b ≤ length (r .kinds) → putRegions (putRegions r 0 a) k b ≡ putRegions r 0 (a ++ b)
@@ -86,6 +83,28 @@ module _ (r : Regions) (w : Even r) where
           nets = column-length _ (r .nets) a (omega (arith, w .nets));
           polygons = column-length _ (r .polygons) a (omega (arith, w .polygons));
         }
+
+-- one row written
+one-length : {A : Type 0} (l : List A) (k : ℕ) (v : A) → k < length l → length (put l k (v ∷ [])) ≡ length l
+one-length l k v h = put-length l k (v ∷ []) (omega arith)
+
+pub written-long : (r : Regions) → Even r → (k : ℕ) (g : SolidRegion) {q : Regions} → k < length (r .kinds) → q ≡ putRegions r k (g ∷ []) → Long r q
+written-long r w k g h e =
+    subst (Long r) (sym e)
+    (record {
+      kinds = one-length (r .kinds) k _ h;
+      minX = one-length (r .minX) k _ (omega (arith, h, w .minX));
+      minY = one-length (r .minY) k _ (omega (arith, h, w .minY));
+      maxX = one-length (r .maxX) k _ (omega (arith, h, w .maxX));
+      maxY = one-length (r .maxY) k _ (omega (arith, h, w .maxY));
+      zBottom = one-length (r .zBottom) k _ (omega (arith, h, w .zBottom));
+      zTop = one-length (r .zTop) k _ (omega (arith, h, w .zTop));
+      starts = one-length (r .starts) k _ (omega (arith, h, w .starts));
+      counts = one-length (r .counts) k _ (omega (arith, h, w .counts));
+      materials = one-length (r .materials) k _ (omega (arith, h, w .materials));
+      nets = one-length (r .nets) k _ (omega (arith, h, w .nets));
+      polygons = one-length (r .polygons) k _ (omega (arith, h, w .polygons));
+    })
 
 -- the lists of q are as long as those of r, which are equally long; and so are q's
 pub still-even : (r q : Regions) → Even r → Long r q → Even q

@@ -47,10 +47,10 @@ enum-told : tie.Need-enum-told
 enum-told c = search needs
 
 returns : tie.Need-returns
-returns c = part-solid (c .before .before .before .before .before .before .before .before .args .xs .now) (c .before .before .before .before .before .before .before .before .args .ys .now) (c .before .before .before .before .before .before .before .before .args .start) (c .before .before .before .before .before .before .before .before .args .count) (c .before .before .before .before .before .before .before .before .pre .1) (sym (ap solidAnswer (c .before .extruded .given .1)) ∙ c .before .before .before .extrude-ring .ensures)
+returns c = part-solid (c .before .before .before .before .before .before .before .before .args .xs .now) (c .before .before .before .before .before .before .before .before .args .ys .now) (c .before .before .before .before .before .before .before .before .args .start) (c .before .before .before .before .before .before .before .before .args .count) (c .before .before .before .before .before .before .before .before .pre .1) (c .before .before .before .before .before .before .before .before .args .z-bottom) (c .before .before .before .before .before .before .before .before .args .z-top) (sym (ap solidAnswer (c .before .extruded .given .1)) ∙ c .before .before .before .extrude-ring .ensures)
 
 returns-2 : tie.Need-returns-2
-returns-2 c = part-never (c .before .before .before .before .before .before .before .args .xs .now) (c .before .before .before .before .before .before .before .args .ys .now) (c .before .before .before .before .before .before .before .args .start) (c .before .before .before .before .before .before .before .args .count) (c .before .before .before .before .before .before .before .pre .1) (sym (ap solidAnswer (c .enum-told .given .1)) ∙ c .before .before .extrude-ring .ensures)
+returns-2 c = part-never (c .before .before .before .before .before .before .before .args .xs .now) (c .before .before .before .before .before .before .before .args .ys .now) (c .before .before .before .before .before .before .before .args .start) (c .before .before .before .before .before .before .before .args .count) (c .before .before .before .before .before .before .before .pre .1) _ (sym (ap solidAnswer (c .enum-told .given .1)) ∙ c .before .before .extrude-ring .ensures)
 
 pub polygon-solid-spec : {M : Type 1} → statement M
 polygon-solid-spec =
