@@ -5,7 +5,7 @@ use mathlib.Core.Bool.{false}
 use mathlib.Core.List.{[], _∷_}
 use lib.IntN.{pos}
 use lib.Ieee.{Float, nan, inf, fin, add, sub, mul, div, lt, eq, le, ofBits, round}
-use Rattle.lists.specs.Answer.{Answer, refused, given}
+use Rattle.lists.specs.Answer.{Answer, refused, given, foldAnswer}
 use Rattle.lists.specs.Lists.{foldBelow, allBelow, anyBelow}
 use Rattle.binary64.specs.Numbers.{atMost, abs}
 use Rattle.openrdson_core.specs.Points.{ringFault}
@@ -95,7 +95,7 @@ box-material-past = refl
 
 -- no rows: +0
 pub empty-total : totalVolume (theRegions [] [] [] [] [] [] [] [] [] [] [] []) [] [] ≡ given zero
-unfolding totalVolume evenRegions allEqual ofBits
+unfolding totalVolume evenRegions allEqual ofBits foldAnswer
 empty-total = refl
 
 -- Two rows: the box 0..2 by 0..1 by 0..3 with a wild start and a wild count, and a prism from 0 to 2 over points 1 to 3 whose first four bounds are no numbers.
@@ -111,33 +111,33 @@ total r = totalVolume r (seven ∷ zero ∷ one ∷ zero ∷ []) (seven ∷ zero
 
 -- 6 and 1
 pub box-and-prism : total (rows 0 1 1 768 three) ≡ given seven
-unfolding totalVolume evenRegions allEqual rowVolume regionAt solidAt volume ringFault signedArea shoelace foldBelow allBelow atMost abs add sub mul div round ofBits lt
+unfolding totalVolume evenRegions allEqual rowVolume regionAt solidAt volume ringFault signedArea shoelace foldBelow allBelow atMost abs add sub mul div round ofBits lt foldAnswer
 box-and-prism = refl
 
 -- as a prism the first row's part ends past the points; as a box the second has bounds that are no numbers; there is no kind 2
 pub part-past : total (rows 1 1 1 1 three) ≡ refused 15
-unfolding totalVolume evenRegions allEqual rowVolume regionAt solidAt
+unfolding totalVolume evenRegions allEqual rowVolume regionAt solidAt foldAnswer
 part-past = refl
 
 pub bounds-not-numbers : total (rows 0 0 1 1 three) ≡ refused 1
-unfolding totalVolume evenRegions allEqual rowVolume regionAt solidAt volume atMost abs add sub mul round ofBits
+unfolding totalVolume evenRegions allEqual rowVolume regionAt solidAt volume atMost abs add sub mul round ofBits foldAnswer
 bounds-not-numbers = refl
 
 pub no-such-kind : total (rows 0 2 1 1 three) ≡ refused 15
-unfolding totalVolume evenRegions allEqual rowVolume regionAt solidAt volume atMost abs add sub mul round ofBits
+unfolding totalVolume evenRegions allEqual rowVolume regionAt solidAt volume atMost abs add sub mul round ofBits foldAnswer
 no-such-kind = refl
 
 pub row-material-past : total (rows 0 1 1 769 three) ≡ refused 15
-unfolding totalVolume evenRegions allEqual rowVolume regionAt solidAt volume atMost abs add sub mul round ofBits
+unfolding totalVolume evenRegions allEqual rowVolume regionAt solidAt volume atMost abs add sub mul round ofBits foldAnswer
 row-material-past = refl
 
 -- region by region: the first row's number comes before the second's kind, and after its own material
 pub number-first : total (rows 0 2 1 1 nan) ≡ refused 1
-unfolding totalVolume evenRegions allEqual rowVolume regionAt solidAt volume atMost
+unfolding totalVolume evenRegions allEqual rowVolume regionAt solidAt volume atMost foldAnswer
 number-first = refl
 
 pub material-first : total (rows 0 2 769 1 nan) ≡ refused 15
-unfolding totalVolume evenRegions allEqual rowVolume regionAt solidAt
+unfolding totalVolume evenRegions allEqual rowVolume regionAt solidAt foldAnswer
 material-first = refl
 
 -- a net too few, before all that is against the row

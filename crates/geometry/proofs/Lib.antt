@@ -2,4 +2,10 @@
 pub mod RegionLaws
 pub mod ExtrudeLaws
 pub mod VolumeLaws
+pub mod RangeLaws
+pub mod PlanLaws
+pub mod TableLaws
+pub mod PolygonLaws
+pub mod RowLaws
+pub mod StackLaws
 pub mod GeometryShapes

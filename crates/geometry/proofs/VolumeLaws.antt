@@ -1,15 +1,14 @@
 -- The total volume: a row, the rows in order, and the lists before them. Assumes nothing.
-use Prim.Native.Nat.{ℕ, zero, suc, _+_, _-_, _≤_, _<_}
+use Prim.Native.Nat.{ℕ, _+_, _≤_, _<_}
 use mathlib.Core.Path.{_≡_, refl, sym, ap, _∙_}
 use mathlib.Core.Bool.{Bool}
 use mathlib.Core.List.{List}
 use native.Mathlib.Omega.{arith}
-use native.Mathlib.Nat.{add-zero, add-suc}
-use native.Mathlib.Numerals.{add-one}
 use lib.ListN.{length}
 use lib.Ieee.{Float}
-use Rattle.lists.specs.Answer.{Answer, refused, given, andThen}
+use Rattle.lists.specs.Answer.{Answer, refused, given, andThen, mapAnswer}
 use Rattle.lists.proofs.Answers.{passed}
+use Rattle.lists.proofs.Folds.{steps-start, steps-more, steps-stop, steps-end}
 use Rattle.binary64.specs.Numbers.{_⊕_}
 use Rattle.binary64.specs.Constants.{zero64}
 use Rattle.openrdson_core.specs.Solids.{ofSolid, volume}
@@ -31,27 +30,23 @@ module _ (r : Regions) (xs ys : List Float) where
 
   -- ---- the rows in order
 
+  abbrev step : Float → ℕ → Answer Float
+  step sum i = mapAnswer (λ (v : Float). sum ⊕ v) (rowVolume r xs ys i)
+
   pub total-none : given zero64 ≡ totalTo r xs ys 0
-  total-none = refl
+  total-none = steps-start step zero64
 
   pub total-more : (i : ℕ) {sum v : Float} → given sum ≡ totalTo r xs ys i → given v ≡ rowVolume r xs ys i → given (sum ⊕ v) ≡ totalTo r xs ys (i + 1)
-  total-more i e f = rw (add-one, sym e, sym f)
+  total-more i {sum} e f = steps-more step zero64 i e (ap (mapAnswer (λ (v : Float). sum ⊕ v)) f)
 
   pub total-all : (i m : ℕ) {sum : Float} → i ≤ m → m ≤ i → given sum ≡ totalTo r xs ys i → given sum ≡ totalTo r xs ys m
-  total-all i m h k e = let d : i ≡ m = omega arith in e ∙ ap (totalTo r xs ys) d
+  total-all i m h k e =
+      let d : i ≡ m = omega arith in
+      steps-end step zero64 e d
 
   -- a row that is turned down decides, whatever comes after
-  stays : (i k : ℕ) {n : ℕ} → refused n ≡ totalTo r xs ys i → refused n ≡ totalTo r xs ys (i + k)
-  stays i zero e = rw (add-zero i) e
-  stays i (suc k) e = rw (add-suc i k, sym (stays i k e))
-
-  stop-here : (i : ℕ) {sum : Float} {n : ℕ} → given sum ≡ totalTo r xs ys i → refused n ≡ rowVolume r xs ys i → refused n ≡ totalTo r xs ys (i + 1)
-  stop-here i e f = rw (add-one, sym e, sym f)
-
   pub total-stops : (i m : ℕ) {sum : Float} {n : ℕ} → i < m → given sum ≡ totalTo r xs ys i → refused n ≡ rowVolume r xs ys i → refused n ≡ totalTo r xs ys m
-  total-stops i m h e f =
-      let d : i + 1 + (m - (i + 1)) ≡ m = omega arith in
-      stays (i + 1) (m - (i + 1)) (stop-here i e f) ∙ ap (totalTo r xs ys) d
+  total-stops i m {sum} h e f = steps-stop step zero64 i m h e (ap (mapAnswer (λ (v : Float). sum ⊕ v)) f)
 
   -- ---- the call: the lists, whose test of evenness is b, then the rows
 

@@ -3,3 +3,8 @@ pub mod Regions
 pub mod Extrude
 pub mod Volumes
 pub mod Answers
+pub mod Ranges
+pub mod Plans
+pub mod Table
+pub mod Polygons
+pub mod Stack

@@ -10,6 +10,7 @@ use Rattle.lists.specs.Answer.{Answer, given, unless, mapAnswer}
 use Rattle.lists.specs.Lists.{put}
 use Rattle.binary64.specs.Numbers.{at}
 use Rattle.binary64.specs.Constants.{zero64}
+use Rattle.openrdson_core.specs.Solids.{zBottom, zTop}
 use Rattle.openrdson_core.specs.declared.solids.Solid.{Solid}
 use Rattle.openrdson_core.specs.declared.solids.Solid.the-variants.{Box, Prism}
 use Rattle.openrdson_core.specs.declared.solids.SolidRegion.{SolidRegion}
@@ -126,14 +127,6 @@ abbrev pub maxYOf : Solid → Float
 maxYOf (Box x0 y0 x1 y1 z0 z1) = y1
 maxYOf (Prism z0 z1 start count) = zero64
 
-abbrev pub zBottomOf : Solid → Float
-zBottomOf (Box x0 y0 x1 y1 z0 z1) = z0
-zBottomOf (Prism z0 z1 start count) = z0
-
-abbrev pub zTopOf : Solid → Float
-zTopOf (Box x0 y0 x1 y1 z0 z1) = z1
-zTopOf (Prism z0 z1 start count) = z1
-
 abbrev pub startOf : Solid → ℕ
 startOf (Box x0 y0 x1 y1 z0 z1) = 0
 startOf (Prism z0 z1 start count) = start
@@ -147,7 +140,7 @@ abbrev pub putRegions : Regions → ℕ → List SolidRegion → Regions
 putRegions r k new =
     theRegions (put (r .kinds) k (map (λ (g : SolidRegion). kindOf (g .solid)) new)) (put (r .minX) k (map (λ (g : SolidRegion). minXOf (g .solid)) new))
     (put (r .minY) k (map (λ (g : SolidRegion). minYOf (g .solid)) new)) (put (r .maxX) k (map (λ (g : SolidRegion). maxXOf (g .solid)) new))
-    (put (r .maxY) k (map (λ (g : SolidRegion). maxYOf (g .solid)) new)) (put (r .zBottom) k (map (λ (g : SolidRegion). zBottomOf (g .solid)) new))
-    (put (r .zTop) k (map (λ (g : SolidRegion). zTopOf (g .solid)) new)) (put (r .starts) k (map (λ (g : SolidRegion). startOf (g .solid)) new))
+    (put (r .maxY) k (map (λ (g : SolidRegion). maxYOf (g .solid)) new)) (put (r .zBottom) k (map (λ (g : SolidRegion). zBottom (g .solid)) new))
+    (put (r .zTop) k (map (λ (g : SolidRegion). zTop (g .solid)) new)) (put (r .starts) k (map (λ (g : SolidRegion). startOf (g .solid)) new))
     (put (r .counts) k (map (λ (g : SolidRegion). countOf (g .solid)) new)) (put (r .materials) k (map (λ (g : SolidRegion). g .«material_id» .0) new))
     (put (r .nets) k (map (λ (g : SolidRegion). g .net) new)) (put (r .polygons) k (map (λ (g : SolidRegion). g .«source_polygon» .0) new))

@@ -1,11 +1,11 @@
 -- The total volume of a region list.
-use Prim.Native.Nat.{ℕ, zero, suc}
+use Prim.Native.Nat.{ℕ}
 use mathlib.Core.Bool.{Bool}
 use mathlib.Core.List.{List}
 use lib.Dec.{eqb, leb}
 use lib.ListN.{length}
 use lib.Ieee.{Float}
-use Rattle.lists.specs.Answer.{Answer, given, unless, andThen}
+use Rattle.lists.specs.Answer.{Answer, given, unless, andThen, mapAnswer, foldAnswer}
 use Rattle.binary64.specs.Numbers.{_⊕_}
 use Rattle.binary64.specs.Constants.{zero64}
 use Rattle.openrdson_core.specs.Solids.{ofSolid, volume}
@@ -18,8 +18,7 @@ rowVolume r xs ys i = andThen (regionAt r (length xs) i) (λ (g : SolidRegion). 
 
 -- the sum over the first n rows in order, from +0; the first row that is turned down decides
 abbrev pub totalTo : Regions → List Float → List Float → ℕ → Answer Float
-totalTo r xs ys zero = given zero64
-totalTo r xs ys (suc n) = andThen (totalTo r xs ys n) (λ sum. andThen (rowVolume r xs ys n) (λ v. given (sum ⊕ v)))
+totalTo r xs ys n = foldAnswer n (λ (sum : Float) (i : ℕ). mapAnswer (λ (v : Float). sum ⊕ v) (rowVolume r xs ys i)) zero64
 
 -- of a region list, even or not, of so many rows, and of point lists of m and n entries: 16, 2
 abbrev pub listsFault : Bool → ℕ → ℕ → ℕ → Answer (Unit {0})

@@ -1,6 +1,12 @@
 // Extruding polygons into boxes and prisms, the region list, and its volume (the original's geometry crate).
 mod extrude;
+mod plans;
+mod polygons;
+mod ranges;
 mod regions;
+mod rows;
+mod stack;
+mod table;
 mod volume;
 
 pub use extrude::Extruded;
@@ -12,4 +18,5 @@ pub use regions::LARGEST_MATERIAL;
 pub use regions::NO_POLYGON;
 pub use regions::are_regions_even;
 pub use regions::region_at;
+pub use stack::Stacked;
 pub use volume::total_volume;

@@ -1,5 +1,5 @@
 -- Answers: what a given answer tells of the tests before it, and rows and maps taken past each other. Assumes nothing.
-use mathlib.Core.Path.{_≡_, refl}
+use mathlib.Core.Path.{_≡_, refl, ap}
 use mathlib.Core.Bool.{Bool, true, false}
 use Prim.Native.Nat.{ℕ}
 use native.Mathlib.Omega.{arith}
@@ -30,3 +30,11 @@ then-then (given a) second third = refl
 pub map-then : {A B C : Type 0} (f : B → C) (first : Answer A) (next : A → Answer B) → mapAnswer f (andThen first next) ≡ andThen first (λ a. mapAnswer f (next a))
 map-then f (refused n) next = refl
 map-then f (given a) next = refl
+
+abbrev value : {A : Type 0} → A → Answer A → A
+value other (refused n) = other
+value other (given a) = a
+
+-- equal answers give equal values
+pub given-same : {A : Type 0} {a b : A} → given a ≡ given b → a ≡ b
+given-same {A} {a} e = ap (value a) e

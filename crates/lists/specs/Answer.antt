@@ -1,5 +1,5 @@
 -- What a call answers: turned down with a refusal number of document 01, or what it gives.
-use Prim.Native.Nat.{ℕ}
+use Prim.Native.Nat.{ℕ, zero, suc}
 use mathlib.Core.Bool.{Bool, true, false}
 
 pub data Answer (A : Type 0) : Type 0 where
@@ -30,3 +30,8 @@ module _ {A : Type 0} where
   abbrev pub status : Answer A → ℕ
   status (refused n) = n
   status (given a) = 0
+
+-- a state that is taken on from place to place over the places below n; the first place that is turned down decides
+unfoldable pub foldAnswer : {S : Type 0} → ℕ → (S → ℕ → Answer S) → S → Answer S
+foldAnswer zero step start = given start
+foldAnswer (suc n) step start = andThen (foldAnswer n step start) (λ s. step s n)

@@ -10,15 +10,18 @@ use Rattle.openrdson_core.specs.declared.blocks.Cell.{Cell}
 use Rattle.openrdson_core.specs.declared.blocks.Cell.the-variants.{Name}
 use Rattle.openrdson_core.proofs.BlockLaws.{unpad-part}
 
+-- the name of row i, whose value starts at `start` and has a name of `n` bytes
+pub name-at : (k : Cell) (s : List ℕ) (i start n : ℕ) → start ≡ 2 + count s * widthOf k + i * 32 → n ≡ nameLength (part start 32 s) → n ≤ 32
+    → part start n s ≡ unpad (valueAt k Name s i)
+name-at k s i start n at long few =
+    ap (λ (l : ℕ). part start l s) long ∙ sym (unpad-part s start (rw (← long) few)) ∙ ap (λ (l : ℕ). unpad (part l 32 s)) at
+
 module _ (k : Cell) (s : List ℕ) (row : Option ℕ) where
   pub name-none : none ≡ row → none ≡ Option·map unpad (Option·map (valueAt k Name s) row)
   name-none e = ap (λ (o : Option ℕ). Option·map unpad (Option·map (valueAt k Name s) o)) e
 
-  -- row i, whose value starts at `start` and has a name of `n` bytes
+  -- the same where row i is the row found
   pub name-some : (i start n : ℕ) → some i ≡ row → start ≡ 2 + count s * widthOf k + i * 32 → n ≡ nameLength (part start 32 s) → n ≤ 32
       → some (part start n s) ≡ Option·map unpad (Option·map (valueAt k Name s) row)
   name-some i start n e at long few =
-      ap (λ (l : ℕ). some (part start l s)) long
-      ∙ ap some (sym (unpad-part s start (rw (← long) few)))
-      ∙ ap (λ (l : ℕ). some (unpad (part l 32 s))) at
-      ∙ ap (λ (o : Option ℕ). Option·map unpad (Option·map (valueAt k Name s) o)) e
+      ap some (name-at k s i start n at long few) ∙ ap (λ (o : Option ℕ). Option·map unpad (Option·map (valueAt k Name s) o)) e

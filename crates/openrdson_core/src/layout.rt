@@ -1,7 +1,9 @@
 // The layout: the logical name of a layer number, and the marker rule.
 ghost use mathlib.Core.Path.{_≡_};
 ghost use mathlib.Core.Bool.{true};
-ghost use Rattle.openrdson_core.specs.Blocks.{layerNamesOk};
+ghost use Prim.Native.Nat.{_<_};
+ghost use Rattle.openrdson_core.specs.Bytes.{unpad};
+ghost use Rattle.openrdson_core.specs.Blocks.{layerNamesOk, count, valueAt};
 ghost use Rattle.openrdson_core.specs.Maps.{spanned, spanWithin};
 ghost use Rattle.openrdson_core.specs.Answers.{rowAnswer};
 ghost use Rattle.openrdson_core.specs.Layout as spec;
@@ -58,6 +60,25 @@ fn find_pattern(s: &[u8], bits: u64) -> Row
         i += 1;
     }
     Row::Nowhere
+}
+
+// The first row whose number is a layer's. For a block that has been checked.
+pub fn find_layer(s: &[u8], layer: i16) -> Row
+    requires { ⌜ layerNamesOk (now s) ≡ true ⌝ }
+    ensures { λ r. ⌜ rowAnswer r ≡ spec.rowOfPattern (now (s .entry)) (spec.patternOf layer) ⌝ }
+{
+    find_pattern(s, pattern(layer))
+}
+
+// The logical name of row i, without its padding. For a block that has been checked, and a row of it.
+pub fn layer_name_at(s: &[u8], i: usize) -> &[u8]
+    requires { ⌜ (layerNamesOk (now s) ≡ true) × (i < count (now s)) ⌝ }
+    ensures { λ r. ⌜ now r ≡ unpad (valueAt Cell.Number Cell.Name (now (s .entry)) i) ⌝ }
+{
+    let n = rows(s);
+    let start = 2 + n * 2 + i * 32;
+    let long = name_length(&s[start..start + 32]);
+    &s[start..start + long]
 }
 
 // The part of the block that is a layer's logical name. For a block that has been checked.

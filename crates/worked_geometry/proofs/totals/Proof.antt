@@ -1,5 +1,6 @@
 -- `totals` meets its contract: each check is true by the contracts, computed. Assumes nothing.
 use lib.Ieee.{add, sub, mul, div, lt, eq, round, ofBits}
+use Rattle.lists.specs.Answer.{foldAnswer}
 use Rattle.lists.specs.Lists.{foldBelow, allBelow}
 use Rattle.binary64.specs.Numbers.{atMost, abs}
 use Rattle.openrdson_core.specs.Points.{ringFault}
@@ -30,7 +31,7 @@ is-total-requires : tie.Need-is-total-requires
 is-total-requires c κs = search needs
 
 expect-requires : tie.Need-expect-requires
-unfolding totalVolume evenRegions allEqual rowVolume regionAt solidAt volume atMost abs add sub mul div round ofBits lt eq ringFault signedArea shoelace foldBelow allBelow
+unfolding totalVolume foldAnswer evenRegions allEqual rowVolume regionAt solidAt volume atMost abs add sub mul div round ofBits lt eq ringFault signedArea shoelace foldBelow allBelow
 expect-requires c κs = rw (c .is-total .ensures, c .before .total-of-two .ensures)
 
 slice-aggregate-total-of-two-5 : tie.Need-slice-aggregate-total-of-two-5
@@ -52,7 +53,7 @@ total-refused-requires : tie.Need-total-refused-requires
 total-refused-requires c κs = search needs
 
 expect-requires-2 : tie.Need-expect-requires-2
-unfolding totalVolume evenRegions allEqual rowVolume regionAt solidAt volume atMost abs add sub mul div round ofBits lt eq
+unfolding totalVolume foldAnswer evenRegions allEqual rowVolume regionAt solidAt volume atMost abs add sub mul div round ofBits lt eq
 expect-requires-2 c κs = rw (c .total-refused .ensures, c .before .total-of-two2 .ensures)
 
 slice-aggregate-total-of-two-9 : tie.Need-slice-aggregate-total-of-two-9
@@ -74,7 +75,7 @@ total-refused-requires-2 : tie.Need-total-refused-requires-2
 total-refused-requires-2 c κs = search needs
 
 expect-requires-3 : tie.Need-expect-requires-3
-unfolding totalVolume evenRegions allEqual rowVolume regionAt solidAt volume atMost abs add sub mul div round ofBits lt eq
+unfolding totalVolume foldAnswer evenRegions allEqual rowVolume regionAt solidAt volume atMost abs add sub mul div round ofBits lt eq
 expect-requires-3 c κs = rw (c .total-refused2 .ensures, c .before .total-of-two3 .ensures)
 
 returns : tie.Need-returns
