@@ -8,21 +8,21 @@ use lib.Dec.{T, leb, ltb, eqb, ltb→lt, lt→ltb, leb→le, le→leb, eqb→eq,
 use lib.IntN.{pos}
 use lib.Ieee.{Float, neg, nan, inf, fin, up, down, lt, le, below, level}
 use lib.Ieee.Fits.{down-pos}
-use borrow.Author.Tests.{not-true}
+use borrow.Author.Tests.{not-true, leb-false, le-leb}
 use Rattle.binary64.proofs.Values.{same-test}
 use Rattle.binary64.proofs.Sizes.{atMost-is, within-abs}
 use Rattle.binary64.specs.Numbers.{atMost}
 
 -- ---- tests
-both : (p q : Bool) → p ≡ true → q ≡ true → (p && q) ≡ true
+pub both : (p q : Bool) → p ≡ true → q ≡ true → (p && q) ≡ true
 both true q h k = k
 both false q h k = h
 
-first : (p q : Bool) → (p && q) ≡ true → p ≡ true
+pub first : (p q : Bool) → (p && q) ≡ true → p ≡ true
 first true q h = refl
 first false q h = h
 
-second : (p q : Bool) → (p && q) ≡ true → q ≡ true
+pub second : (p q : Bool) → (p && q) ≡ true → q ≡ true
 second true q h = h
 second false q h = absurd (subst T (sym h) tt)
 
@@ -35,11 +35,11 @@ refuted : (p q : Bool) → (p ≡ true → q ≡ true) → q ≡ false → p ≡
 refuted true q f h = sym (f refl) ∙ h
 refuted false q f h = refl
 
-is-true : (b : Bool) → T b → b ≡ true
+pub is-true : (b : Bool) → T b → b ≡ true
 is-true true t = refl
 is-true false t = absurd t
 
-holds : (b : Bool) → b ≡ true → T b
+pub holds : (b : Bool) → b ≡ true → T b
 holds b h = subst T (sym h) tt
 
 eq→eqb : (a b : ℕ) → a ≡ b → T (eqb a b)
@@ -50,7 +50,7 @@ and-test true u r f g h = same-test u r (f tt) h
 and-test false u r f g h = same-test false r absurd g
 
 -- ---- ±A and ±B compare as two sums of sizes do: what is negative is moved to the other side
-abbrev part : Bool → ℕ → ℕ
+abbrev pub part : Bool → ℕ → ℕ
 part false n = n
 part true n = 0
 
@@ -93,7 +93,7 @@ lt-finite s t a b =
     below-is s t a b ∙ strict-is (side s a t b) (side t b s a)
     ∙ sym (ap (λ (x : Bool). x && not (below t b s a || level t b s a)) (le-finite s t a b) ∙ ap (λ (x : Bool). leb (side s a t b) (side t b s a) && not x) (le-finite t s b a))
 
-part-mul : (s : Bool) (a q : ℕ) → part s (a * q) ≡ part s a * q
+pub part-mul : (s : Bool) (a q : ℕ) → part s (a * q) ≡ part s a * q
 part-mul false a q = refl
 part-mul true a q = sym (zero-mul q)
 
@@ -105,22 +105,19 @@ chain x x' y y' z z' p q r Q h k =
     let n : (x * r + z' * p) * q ≤ (z * p + x' * r) * q = omega arith in
     le-of-mul-le-mul-right n Q
 
+-- ±a / p at most ±b / q, as sums of products of sizes, and back
+pub cross : (s t : Bool) (a b p q : ℕ) → T (below s (a * q) t (b * p) || level s (a * q) t (b * p)) → part s a * q + part (not t) b * p ≤ part t b * p + part (not s) a * q
+cross s t a b p q h =
+    omega (arith, part-mul s a q, part-mul (not s) a q, part-mul t b p, part-mul (not t) b p, leb→le (side s (a * q) t (b * p)) (side t (b * p) s (a * q)) (subst T (le-finite s t (a * q) (b * p)) h))
+
+pub uncross : (s t : Bool) (a b p q : ℕ) → part s a * q + part (not t) b * p ≤ part t b * p + part (not s) a * q → T (below s (a * q) t (b * p) || level s (a * q) t (b * p))
+uncross s t a b p q h =
+    subst T (sym (le-finite s t (a * q) (b * p)))
+    (le→leb (side s (a * q) t (b * p)) (side t (b * p) s (a * q)) (omega (arith, part-mul s a q, part-mul (not s) a q, part-mul t b p, part-mul (not t) b p)))
+
 le-trans-finite : (s t u : Bool) (a b c p q r : ℕ) → 0 < q → T (below s (a * q) t (b * p) || level s (a * q) t (b * p)) → T (below t (b * r) u (c * q) || level t (b * r) u (c * q)) → T (below s (a * r) u (c * p) || level s (a * r) u (c * p))
 le-trans-finite s t u a b c p q r Q h k =
-    subst T (sym (le-finite s u (a * r) (c * p)))
-    (le→leb (side s (a * r) u (c * p)) (side u (c * p) s (a * r))
-    (omega (
-      arith,
-      part-mul s a r,
-      part-mul (not s) a r,
-      part-mul u c p,
-      part-mul (not u) c p,
-      chain (part s a) (part (not s) a) (part t b) (part (not t) b) (part u c) (part (not u) c) p q r Q (cross s t a b p q h) (cross t u b c q r k),
-    )))
-  where
-    cross : (s t : Bool) (a b p q : ℕ) → T (below s (a * q) t (b * p) || level s (a * q) t (b * p)) → part s a * q + part (not t) b * p ≤ part t b * p + part (not s) a * q
-    cross s t a b p q h =
-        omega (arith, part-mul s a q, part-mul (not s) a q, part-mul t b p, part-mul (not t) b p, leb→le (side s (a * q) t (b * p)) (side t (b * p) s (a * q)) (subst T (le-finite s t (a * q) (b * p)) h))
+    uncross s u a c p r (chain (part s a) (part (not s) a) (part t b) (part (not t) b) (part u c) (part (not u) c) p q r Q (cross s t a b p q h) (cross t u b c q r k))
 
 -- ---- all values
 -- nothing is at most a not-a-number
@@ -129,6 +126,10 @@ unfolding le
 le-nan nan h = h
 le-nan (inf s) h = h
 le-nan (fin s m e) h = h
+
+nan-le : (y : Float) → le nan y ≡ false
+unfolding le
+nan-le y = refl
 
 trans : (x y z : Float) → T (le x y) → T (le y z) → T (le x z)
 unfolding le
@@ -168,6 +169,23 @@ lt-is (fin s m e) (inf true) = refl
 lt-is (fin s m e) (inf false) = refl
 lt-is (fin s m e) (fin t n d) = lt-finite s t (m * up e * down d) (n * up d * down e)
 
+-- of two finite values one is at most the other
+total-finite : (s t : Bool) (a b : ℕ) → (below s a t b || level s a t b) ≡ false → (below t b s a || level t b s a) ≡ true
+total-finite s t a b h = le-finite t s b a ∙ over (side s a t b) (side t b s a) (sym (le-finite s t a b) ∙ h)
+  where
+    over : (x y : ℕ) → leb x y ≡ false → leb y x ≡ true
+    over x y e = le-leb y x (omega (arith, leb-false x y e))
+
+pub never : {X : Type 0} → false ≡ true → X
+never e = absurd (holds false e)
+
+le-self : (x : Float) → (x ≡ nan → ⊥) → T (le x x)
+unfolding le
+le-self nan h = absurd (h refl)
+le-self (inf true) h = tt
+le-self (inf false) h = tt
+le-self (fin s m e) h = uncross s s (m * up e) (m * up e) (down e) (down e) (omega arith)
+
 -- ---- the laws
 pub le-trans : (a b c : Float) → le a b ≡ true → le b c ≡ true → le a c ≡ true
 le-trans a b c h k = is-true (le a c) (trans a b c (holds (le a b) h) (holds (le b c) k))
@@ -193,6 +211,55 @@ le-lt-trans a b c h k = strict a c (le-trans a b c h (lt-le b c k)) (refuted (le
 
 pub lt-trans : (a b c : Float) → lt a b ≡ true → lt b c ≡ true → lt a c ≡ true
 lt-trans a b c h k = lt-le-trans a b c h (lt-le b c k)
+
+-- `le x x` holds of all but not-a-number: of what is at most something, or has something at most it
+pub le-refl-left : (x y : Float) → le x y ≡ true → le x x ≡ true
+le-refl-left x y h = is-true (le x x) (le-self x (λ e. never (sym (ap (λ (z : Float). le z y) e ∙ nan-le y) ∙ h)))
+
+pub le-refl-right : (x y : Float) → le x y ≡ true → le y y ≡ true
+le-refl-right x y h = is-true (le y y) (le-self y (λ e. le-nan x (holds (le x nan) (sym (ap (le x) e) ∙ h))))
+
+-- such a value lies between the infinities
+pub le-infinity : (x : Float) → le x x ≡ true → le x (inf false) ≡ true
+unfolding le
+le-infinity nan h = h
+le-infinity (inf true) h = refl
+le-infinity (inf false) h = refl
+le-infinity (fin s m e) h = refl
+
+pub infinity-le : (x : Float) → le x x ≡ true → le (inf true) x ≡ true
+unfolding le
+infinity-le nan h = h
+infinity-le (inf true) h = refl
+infinity-le (inf false) h = refl
+infinity-le (fin s m e) h = refl
+
+-- of two such values one is at most the other
+pub le-total : (x y : Float) → le x x ≡ true → le y y ≡ true → le x y ≡ false → le y x ≡ true
+unfolding le
+le-total nan y p q h = never p
+le-total (inf s) nan p q h = never q
+le-total (inf true) (inf true) p q h = refl
+le-total (inf true) (inf false) p q h = never (sym h)
+le-total (inf false) (inf true) p q h = refl
+le-total (inf false) (inf false) p q h = refl
+le-total (inf true) (fin t n d) p q h = never (sym h)
+le-total (inf false) (fin t n d) p q h = refl
+le-total (fin s m e) nan p q h = never q
+le-total (fin s m e) (inf true) p q h = refl
+le-total (fin s m e) (inf false) p q h = never (sym h)
+le-total (fin s m e) (fin t n d) p q h = total-finite s t (m * up e * down d) (n * up d * down e) h
+
+pub not-lt-le : (x y : Float) → le x x ≡ true → le y y ≡ true → lt x y ≡ false → le y x ≡ true
+not-lt-le x y p q h = go (le x y) (le y x) refl refl (sym (lt-is x y) ∙ h)
+  where
+    go : (b c : Bool) → le x y ≡ b → le y x ≡ c → (b && not c) ≡ false → le y x ≡ true
+    go true true f g k = g
+    go true false f g k = never (sym k)
+    go false c f g k = le-total x y p q f
+
+pub not-le-lt : (x y : Float) → le x x ≡ true → le y y ≡ true → le x y ≡ false → lt y x ≡ true
+not-le-lt x y p q h = strict y x (le-total x y p q h) h
 
 -- ---- at most 2 ^ k in size: from -2 ^ k to 2 ^ k
 atMost-sides : (k : ℕ) (x : Float) → atMost k x ≡ (le x (fin false 1 (pos k)) && le (fin true 1 (pos k)) x)

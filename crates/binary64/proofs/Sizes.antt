@@ -7,7 +7,7 @@ use native.Mathlib.Omega.{arith}
 use mathlib.Core.Bool.{Bool, true, false, not, _&&_, _||_, Bool·beq}
 use lib.Dec.{T, leb, ltb, eqb, ltb→lt, lt→ltb, leb→le, le→leb, eqb→eq, eqb-refl}
 use lib.IntN.{ℤ, pos}
-use lib.Ieee.{Float, nan, inf, fin, binary64, up, down, neg, lt, le, eq, below, level, fits}
+use lib.Ieee.{Float, nan, inf, fin, binary64, up, down, neg, lt, le, eq, below, level, fits, ofBits}
 use lib.Ieee.Fits.{up-pos, and-l, and-r}
 use borrow.Author.Tests.{ltb-true, ltb-false}
 use Rattle.binary64.proofs.Values.{same-test, zero-exponent}
@@ -129,6 +129,11 @@ unfolding atMost abs le
 atMost-is k nan = refl
 atMost-is k (inf s) = refl
 atMost-is k (fin s m e) = sym (le-form (m * up e * 1) (1 * 2 ^ k * down e) ∙ ap (λ (z : ℕ). leb z (1 * 2 ^ k * down e)) (mul-one (m * up e)) ∙ ap (λ (z : ℕ). leb (m * up e) (z * down e)) (one-mul (2 ^ k)))
+
+-- 2 ^ 20 by its bits
+pub coordinate-is : (x : Float) → le (abs x) (ofBits binary64 0x4130_0000_0000_0000) ≡ atMost 20 x
+unfolding ofBits
+coordinate-is x = sym (atMost-is 20 x)
 
 -- ---- compared with zero
 pub plus-not-below : (m : ℕ) (e : ℤ) → lt (fin false m e) (fin false 0 (pos 0)) ≡ true → ⊥

@@ -6,6 +6,7 @@ pub mod LayoutLaws
 pub mod MapLaws
 pub mod Areas
 pub mod Corners
+pub mod Apart
 pub mod SolidAnswers
 pub mod Shapes
 pub mod MeshLaws

@@ -1,14 +1,19 @@
 -- What the lengths of a ring, and of point lists with a part, tell once they have passed. Assumes nothing.
-use mathlib.Core.Path.{_≡_, sym}
+use mathlib.Core.Path.{_≡_}
 use Prim.Native.Nat.{ℕ, _+_, _≤_}
 use mathlib.Core.List.{List}
 use lib.Dec.{eqb, leb}
 use lib.ListN.{length}
-use lib.Ieee.{Float}
+use mathlib.Core.Bool.{_&&_}
+use lib.Ieee.{Float, binary64, ofBits, le}
 use borrow.Author.Tests.{eqb-true, leb-true}
-use Rattle.lists.specs.Answer.{Answer, given, unless}
+use Rattle.lists.specs.Answer.{given, unless}
 use Rattle.lists.proofs.Answers.{passed, passed-then}
-use Rattle.openrdson_core.specs.Points.{pointsIn, ringSize, ringFault, ofRing}
+use Rattle.lists.proofs.Scans.{all-same}
+use Rattle.binary64.specs.Numbers.{at, abs}
+use Rattle.binary64.proofs.Sizes.{coordinate-is}
+use Rattle.openrdson_core.specs.Apart.{pointsWithin}
+use Rattle.openrdson_core.specs.Points.{pointAt, pointIn, pointsIn, ringSize, ringFault, ofRing}
 use Rattle.openrdson_core.specs.Solids.{pointsFault}
 
 pub record Sized (m n : ℕ) : Type 0 where
@@ -39,3 +44,9 @@ parted m n start count e =
     let first = passed (eqb m n) 16 (unless (leb (start + count) m) 15 (unless (leb m 2097152) 2 (given tt))) e in
     let second = passed (leb (start + count) m) 15 (unless (leb m 2097152) 2 (given tt)) (first .1) in
     record { even = eqb-true m n (first .0); within = leb-true (start + count) m (second .0) }
+
+-- the limit of a coordinate, as the code writes it
+pub range-is : (xs ys : List Float) → pointsWithin (ofBits binary64 0x4130_0000_0000_0000) xs ys ≡ pointsIn xs ys
+range-is xs ys =
+    all-same (λ i. le (abs (at xs i)) (ofBits binary64 0x4130_0000_0000_0000) && le (abs (at ys i)) (ofBits binary64 0x4130_0000_0000_0000)) (λ i. pointIn (pointAt xs ys i)) (length xs)
+    (λ i _. rw (coordinate-is (at xs i), coordinate-is (at ys i)))

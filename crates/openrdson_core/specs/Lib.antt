@@ -5,6 +5,7 @@ pub mod Answers
 pub mod Bounds
 pub mod Area
 pub mod Rectangle
+pub mod Apart
 pub mod Solids
 pub mod Bytes
 pub mod Blocks

@@ -3,6 +3,7 @@ ghost use mathlib.Core.Path.{_≡_};
 ghost use mathlib.Core.Bool.{_&&_};
 ghost use lib.ListN.{length};
 ghost use Rattle.openrdson_core.specs.Points.{thePoint, pointIn, pointsIn, ringSize, ringFault};
+ghost use Rattle.openrdson_core.specs.Apart.{pointsWithin};
 ghost use Rattle.openrdson_core.specs.Answers.{checkAnswer};
 use crate::refusals::Refusal;
 
@@ -75,15 +76,23 @@ pub fn ring_size(m: usize, n: usize) -> Check
     Check::Fine
 }
 
-// Whether every point is in range. There is no branch in the loop, so that several points are tested at once.
+// Whether every point is in range.
 fn points_in_range(xs: &[f64], ys: &[f64]) -> bool
     requires { ⌜ length (now xs) ≡ length (now ys) ⌝ }
     ensures { λ r. ⌜ r ≡ pointsIn (now (xs .entry)) (now (ys .entry)) ⌝ }
 {
+    points_within(xs, ys, 1048576.0)
+}
+
+// Whether every coordinate is at most limit in size. There is no branch in the loop, so that several points are tested at once.
+pub fn points_within(xs: &[f64], ys: &[f64], limit: f64) -> bool
+    requires { ⌜ length (now xs) ≡ length (now ys) ⌝ }
+    ensures { λ r. ⌜ r ≡ pointsWithin limit (now (xs .entry)) (now (ys .entry)) ⌝ }
+{
     let mut fine = true;
     let mut i = 0;
     while i < xs.len() {
-        fine = fine & Point::new(xs[i], ys[i]).is_in_range();
+        fine = fine & (binary64::is_within(xs[i], limit) & binary64::is_within(ys[i], limit));
         i += 1;
     }
     fine

@@ -1,16 +1,74 @@
 // The test whether a ring is an axis-aligned rectangle.
 ghost use mathlib.Core.Path.{_≡_};
+ghost use mathlib.Core.Bool.{true, false, _&&_};
+ghost use Prim.Native.Nat.{_≤_};
 ghost use lib.ListN.{length};
-ghost use Rattle.openrdson_core.specs.Points.{ofRing};
+ghost use Rattle.openrdson_core.specs.Points.{pointsIn, ofRing};
+ghost use Rattle.openrdson_core.specs.Apart.{pointsWithin, areApart, toleranceWithin, threeApart};
 ghost use Rattle.openrdson_core.specs.Rectangle.{onCorner, onSomeCorner, allOnCorners, isTaken, allCornersTaken, fillsCorners, fillsBounds, isRectangle};
 ghost use Rattle.openrdson_core.specs.Answers.{judgedAnswer};
 use crate::bounds::Bbox;
 use crate::bounds::Bounded;
+use crate::points::Check;
 use crate::points::Judged;
 use crate::points::Point;
+use crate::points::points_within;
+use crate::points::ring_size;
 
 // Whether each point lies on a corner of the bounding box, and each corner has a point.
 pub fn is_axis_aligned_rectangle(xs: &[f64], ys: &[f64]) -> Judged
+    ensures { λ r. ⌜ judgedAnswer r ≡ ofRing (now (xs .entry)) (now (ys .entry)) (isRectangle (now (xs .entry)) (now (ys .entry))) ⌝ }
+{
+    let size = ring_size(xs.len(), ys.len());
+    match size {
+        Check::Refused(why) => Judged::Refused(why),
+        Check::Fine => {
+            if is_plainly_none(xs, ys) {
+                return Judged::Value(false);
+            }
+            judged_by_bounds(xs, ys)
+        }
+    }
+}
+
+// Whether three points show, without the bounds, that a ring in range is no rectangle. A smaller limit makes for a smaller tolerance:
+// after the limit of a coordinate comes a metre, within which a layout lies.
+fn is_plainly_none(xs: &[f64], ys: &[f64]) -> bool
+    requires { ⌜ length (now xs) ≡ length (now ys) ⌝ }
+    ensures { λ r. ⌜ (r ≡ true → (pointsIn (now (xs .entry)) (now (ys .entry)) ≡ true) × (isRectangle (now (xs .entry)) (now (ys .entry)) ≡ false)) ⌝ }
+{
+    if xs.len() < 4 {
+        return false;
+    }
+    if is_off_corners(xs, ys, 1048576.0) {
+        return true;
+    }
+    is_off_corners(xs, ys, 1.0)
+}
+
+// Whether the points are within the limit, and three of them have three x, or three y, that are farther from each other than the
+// tolerance can be: a side is at most twice the limit. The middle one of the three is then at no side of the bounds. Places 0, 2 and 3
+// show it of a curve, and of a ring whose first three edges turn and do not close a rectangle.
+fn is_off_corners(xs: &[f64], ys: &[f64], limit: f64) -> bool
+    requires { ⌜ (length (now xs) ≡ length (now ys)) × (4 ≤ length (now xs)) ⌝ }
+    ensures { λ r. ⌜ r ≡ (threeApart (toleranceWithin limit) (now (xs .entry)) (now (ys .entry)) && pointsWithin limit (now (xs .entry)) (now (ys .entry))) ⌝ }
+{
+    let most = 1e-9 * (limit + limit);
+    if are_apart(xs[0], xs[2], xs[3], most) | are_apart(ys[0], ys[2], ys[3], most) {
+        return points_within(xs, ys, limit);
+    }
+    false
+}
+
+// Whether no two of the three are within t of each other.
+fn are_apart(a: f64, b: f64, c: f64, t: f64) -> bool
+    ensures { λ r. ⌜ r ≡ areApart t a b c ⌝ }
+{
+    !binary64::is_within(a - b, t) & !binary64::is_within(b - c, t) & !binary64::is_within(a - c, t)
+}
+
+// The same answer, from the bounds.
+fn judged_by_bounds(xs: &[f64], ys: &[f64]) -> Judged
     ensures { λ r. ⌜ judgedAnswer r ≡ ofRing (now (xs .entry)) (now (ys .entry)) (isRectangle (now (xs .entry)) (now (ys .entry))) ⌝ }
 {
     let bounded = Bbox::from_points(xs, ys);
@@ -20,7 +78,7 @@ pub fn is_axis_aligned_rectangle(xs: &[f64], ys: &[f64]) -> Judged
     }
 }
 
-// The same of points with these bounds. The tolerance is 1e-9 of the larger side.
+// The same of points in range, with these bounds. The tolerance is 1e-9 of the larger side.
 fn fills_bounds(xs: &[f64], ys: &[f64], bounds: Bbox) -> bool
     requires { ⌜ length (now xs) ≡ length (now ys) ⌝ }
     ensures { λ r. ⌜ r ≡ fillsBounds (now (xs .entry)) (now (ys .entry)) bounds ⌝ }

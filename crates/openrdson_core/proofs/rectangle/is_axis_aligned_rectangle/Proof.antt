@@ -1,45 +1,52 @@
--- `is_axis_aligned_rectangle` meets its contract: the bounds' answer, judged. Assumes nothing.
+-- `is_axis_aligned_rectangle` meets its contract: three points that show that it is none, else the bounds. Assumes nothing.
 use mathlib.Core.Path.{sym, ap, _∙_}
-use Rattle.lists.specs.Answer.{given, mapAnswer}
-use Rattle.lists.proofs.Answers.{map-then, passed-then}
-use Rattle.openrdson_core.specs.Answers.{boundedAnswer}
-use Rattle.openrdson_core.specs.Points.{ringFault}
-use Rattle.openrdson_core.specs.Bounds.{boundsOf}
-use Rattle.openrdson_core.specs.Rectangle.{fillsBounds}
-use Rattle.openrdson_core.proofs.Rings.{of-ring}
 use borrow.Author.Needs.{needs}
+use Rattle.openrdson_core.specs.Answers.{checkAnswer}
+use Rattle.openrdson_core.specs.Points.{ringFault}
+use Rattle.openrdson_core.proofs.Rings.{sized}
 use Rattle.openrdson_core.proofs.rectangle.is_axis_aligned_rectangle.Statement.{statement}
 use Rattle.openrdson_core.proofs.rectangle.is_axis_aligned_rectangle.Tie as tie
 use Rattle.openrdson_core.proofs.rectangle.is_axis_aligned_rectangle.Reads as reads
 use Rattle.openrdson_core.proofs.rectangle.is_axis_aligned_rectangle.Lts as lts
-use Rattle.openrdson_core.proofs.bounds.Bbox.from_points.Reads as from-points-reads
-use Rattle.openrdson_core.proofs.rectangle.fills_bounds.Reads as fills-bounds-reads
+use Rattle.openrdson_core.proofs.points.ring_size.Reads as ring-size-reads
+use Rattle.openrdson_core.proofs.rectangle.is_plainly_none.Reads as is-plainly-none-reads
+use Rattle.openrdson_core.proofs.rectangle.judged_by_bounds.Reads as judged-by-bounds-reads
 
-from-points-requires : tie.Need-from-points-requires
-from-points-requires c κs = search needs
+ring-size-requires : tie.Need-ring-size-requires
+ring-size-requires c κs = search needs
 
-enum-known-bounded : tie.Need-enum-known-bounded
-enum-known-bounded c = search needs
+enum-known-size : tie.Need-enum-known-size
+enum-known-size c = search needs
 
-enum-known-bounded-2 : tie.Need-enum-known-bounded-2
-enum-known-bounded-2 c = search needs
+enum-told : tie.Need-enum-told
+enum-told c = search needs
 
-fills-bounds-requires : tie.Need-fills-bounds-requires
-fills-bounds-requires c κs = of-ring (c .before .before .before .before .before .before .args .xs .now) (c .before .before .before .before .before .before .args .ys .now) (boundsOf (c .before .before .before .before .before .before .args .xs .now) (c .before .before .before .before .before .before .args .ys .now)) (sym (c .before .before .before .from-points .ensures) ∙ ap boundedAnswer (c .before .bounded2 .given .1)) .even
+is-plainly-none-requires : tie.Need-is-plainly-none-requires
+is-plainly-none-requires c κs = sized _ _ (sym (c .before .before .ring-size .ensures) ∙ ap checkAnswer (c .enum-told .given .1)) .even
 
 returns : tie.Need-returns
-returns c = ap (mapAnswer (fillsBounds (c .before .before .before .before .before .before .args .xs .now) (c .before .before .before .before .before .before .args .ys .now))) (sym (ap boundedAnswer (c .before .bounded .given .1)) ∙ c .before .before .before .from-points .ensures) ∙ map-then (fillsBounds (c .before .before .before .before .before .before .args .xs .now) (c .before .before .before .before .before .before .args .ys .now)) (ringFault (c .before .before .before .before .before .before .args .xs .now) (c .before .before .before .before .before .before .args .ys .now)) (λ _. given (boundsOf (c .before .before .before .before .before .before .args .xs .now) (c .before .before .before .before .before .before .args .ys .now)))
+unfolding ringFault
+returns c = rw (sym (c .before .before .before .before .ring-size .ensures) ∙ ap checkAnswer (c .before .before .enum-told .given .1), c .before .is-plainly-none .ensures (c .if1 .taken) .0, c .before .is-plainly-none .ensures (c .if1 .taken) .1)
+
+judged-by-bounds-requires : tie.Need-judged-by-bounds-requires
+judged-by-bounds-requires c κs = search needs
 
 returns-2 : tie.Need-returns-2
-returns-2 c = ap given (c .fills-bounds .ensures) ∙ ap (mapAnswer (fillsBounds (c .before .before .before .before .before .before .before .args .xs .now) (c .before .before .before .before .before .before .before .args .ys .now))) (sym (ap boundedAnswer (c .before .before .bounded2 .given .1)) ∙ c .before .before .before .before .from-points .ensures) ∙ map-then (fillsBounds (c .before .before .before .before .before .before .before .args .xs .now) (c .before .before .before .before .before .before .before .args .ys .now)) (ringFault (c .before .before .before .before .before .before .before .args .xs .now) (c .before .before .before .before .before .before .before .args .ys .now)) (λ _. given (boundsOf (c .before .before .before .before .before .before .before .args .xs .now) (c .before .before .before .before .before .before .before .args .ys .now)))
+unfolding ringFault
+returns-2 c = rw (sym (c .before .before .before .ring-size .ensures) ∙ ap checkAnswer (c .before .size .given .1))
+
+returns-3 : tie.Need-returns-3
+returns-3 c = c .judged-by-bounds .ensures
 
 pub is-axis-aligned-rectangle-spec : {M : Type 1} → statement M
 is-axis-aligned-rectangle-spec =
     tie.close
     (tie.spec
-    from-points-requires
-    enum-known-bounded
-    enum-known-bounded-2
-    fills-bounds-requires
+    ring-size-requires
+    enum-known-size
+    enum-told
+    is-plainly-none-requires
     returns
-    returns-2)
+    judged-by-bounds-requires
+    returns-2
+    returns-3)
