@@ -1,3 +1,5 @@
 -- Laws of the definitions, cited by this crate's proofs.
 pub mod Same
 pub mod Lookups
+pub mod SolidCalls
+pub mod Copies

@@ -41,10 +41,14 @@ abbrev pub spanPlaces : Span → Places
 spanPlaces (span.Part start count) = thePlaces start count
 spanPlaces span.Empty = thePlaces 0 0
 
--- a name, empty where there is none; no name of a sound block is empty
-abbrev pub orEmpty : Option (List ℕ) → List ℕ
-orEmpty none = []
-orEmpty (some name) = name
+-- the name stands at the places, which lie in the block
+abbrev pub Stands : List ℕ → List ℕ → Places → Type 0
+Stands block name p = (bytesAt block p ≡ name) × placesIn block p
+
+-- the same of a name that may be absent: both numbers are 0 then
+abbrev pub StandsIf : List ℕ → Option (List ℕ) → Places → Type 0
+StandsIf block none p = p ≡ thePlaces 0 0
+StandsIf block (some name) p = Stands block name p
 
 abbrev pub partAnswer : NamePart → Answer Places
 partAnswer (named.Part start count) = given (thePlaces start count)
@@ -60,25 +64,17 @@ pub record NameAt : Type 0 where
 abbrev pub theName : ℕ → ℕ → ℕ → NameAt
 theName b s n = record { block = b; places = thePlaces s n }
 
--- the name that a block's number and places say
-abbrev pub nameIn : List ℕ → List ℕ → ℕ → Places → Option (List ℕ)
-nameIn conducting via zero p = none
-nameIn conducting via (suc zero) p = some (bytesAt conducting p)
-nameIn conducting via (suc (suc zero)) p = some (bytesAt via p)
-nameIn conducting via (suc (suc (suc n))) p = some []
+-- the name stands in the block with this number; there are two
+abbrev pub StandsIn : List ℕ → List ℕ → List ℕ → ℕ → Places → Type 0
+StandsIn conducting via name zero p = ⊥
+StandsIn conducting via name (suc zero) p = Stands conducting name p
+StandsIn conducting via name (suc (suc zero)) p = Stands via name p
+StandsIn conducting via name (suc (suc (suc n))) p = ⊥
 
-abbrev pub nameRead : List ℕ → List ℕ → NameAt → Option (List ℕ)
-nameRead conducting via a = nameIn conducting via (a .block) (a .places)
-
--- the places lie in their block, all numbers are 0 for none, and there is no block 3
-abbrev pub blockIn : List ℕ → List ℕ → ℕ → Places → Type 0
-blockIn conducting via zero p = p ≡ thePlaces 0 0
-blockIn conducting via (suc zero) p = placesIn conducting p
-blockIn conducting via (suc (suc zero)) p = placesIn via p
-blockIn conducting via (suc (suc (suc n))) p = ⊥
-
-abbrev pub nameInside : List ℕ → List ℕ → NameAt → Type 0
-nameInside conducting via a = blockIn conducting via (a .block) (a .places)
+-- all numbers are 0 for none
+abbrev pub NameStands : List ℕ → List ℕ → Option (List ℕ) → NameAt → Type 0
+NameStands conducting via none a = a ≡ theName 0 0 0
+NameStands conducting via (some name) a = StandsIn conducting via name (a .block) (a .places)
 
 abbrev pub nameAnswer : NamePlace → Answer NameAt
 nameAnswer (place.Conducting start count) = given (theName 1 start count)
@@ -111,7 +107,7 @@ abbrev pub layerGiven : Option StackFigures → LayerGiven
 layerGiven none = theLayer false (theFigure false zero64) (theFigure false zero64)
 layerGiven (some l) = theLayer true (figureGiven (l .height)) (figureGiven (l .thickness))
 
--- ---- a via's layers, as places in the vias block and as the names that are there
+-- ---- a via's layers, as places in the vias block
 
 pub record ViaAt : Type 0 where
   pub found : Bool
@@ -121,22 +117,10 @@ pub record ViaAt : Type 0 where
 abbrev pub theVia : Bool → Places → Places → ViaAt
 theVia f b t = record { found = f; bottom = b; top = t }
 
-pub record ViaRead : Type 0 where
-  pub found : Bool
-  pub bottom : List ℕ
-  pub top : List ℕ
-
-abbrev pub viaRead : List ℕ → ViaAt → ViaRead
-viaRead vias v = record { found = v .found; bottom = bytesAt vias (v .bottom); top = bytesAt vias (v .top) }
-
--- the places lie in the block
-abbrev pub viaInside : List ℕ → ViaAt → Type 0
-viaInside vias v = placesIn vias (v .bottom) × placesIn vias (v .top)
-
--- the names of a via, empty where there is none
-abbrev pub viaGiven : Option ViaNames → ViaRead
-viaGiven none = record { found = false; bottom = []; top = [] }
-viaGiven (some v) = record { found = true; bottom = orEmpty (v .bottom); top = orEmpty (v .top) }
+-- the layers of a via; all numbers are 0 where there is none
+abbrev pub ViaStands : List ℕ → Option ViaNames → ViaAt → Type 0
+ViaStands vias none v = v ≡ theVia false (thePlaces 0 0) (thePlaces 0 0)
+ViaStands vias (some names) v = (v .found ≡ true) × StandsIf vias (names .bottom) (v .bottom) × StandsIf vias (names .top) (v .top)
 
 abbrev pub viaAnswer : ViaLayers → Answer ViaAt
 viaAnswer (via.Found b t) = given (theVia true (spanPlaces b) (spanPlaces t))

@@ -5,7 +5,7 @@ ghost use Rattle.openrdson_core.specs.Answers.{checkAnswer, measuredAnswer, jud
 ghost use Rattle.openrdson_core.specs.Bounds.{theBbox};
 ghost use Rattle.openrdson_core.specs.Maps.{lookupAnswer};
 ghost use Rattle.openrdson_core.specs.Tech.{figureValue, stackLayerAnswer};
-ghost use Rattle.c_api.specs.Given.{Given};
+ghost use Rattle.c_api.specs.Given.{Copied, Given};
 ghost use Rattle.c_api.specs.Lookups as spec;
 use openrdson_core::Bounded;
 use openrdson_core::Check;
@@ -20,7 +20,7 @@ use openrdson_core::Span;
 use openrdson_core::StackLayer;
 use openrdson_core::ViaLayers;
 
-// The status of a check, a number, a truth and so on: one function a kind of answer.
+// The status of a check, which gives no value.
 pub fn give_check(answer: Check) -> u32
     ensures { λ r. ⌜ r ≡ status (checkAnswer answer) ⌝ }
 {
@@ -30,6 +30,7 @@ pub fn give_check(answer: Check) -> u32
     }
 }
 
+// A length, an area or a volume.
 pub fn give_number(answer: Measured, out: &mut f64) -> u32
     ensures { λ r. ⌜ Given (measuredAnswer answer) r (now (out .entry)) (now (out .exit)) ⌝ }
 {
@@ -42,6 +43,7 @@ pub fn give_number(answer: Measured, out: &mut f64) -> u32
     }
 }
 
+// Yes or no.
 pub fn give_truth(answer: Judged, out: &mut bool) -> u32
     ensures { λ r. ⌜ Given (judgedAnswer answer) r (now (out .entry)) (now (out .exit)) ⌝ }
 {
@@ -54,6 +56,7 @@ pub fn give_truth(answer: Judged, out: &mut bool) -> u32
     }
 }
 
+// The four bounds of a box.
 pub fn give_bounds(
     answer: Bounded,
     min_x: &mut f64,
@@ -75,6 +78,7 @@ pub fn give_bounds(
     }
 }
 
+// Whether a name was found. None is an answer: its status is 0.
 pub fn give_found(answer: Lookup, out: &mut bool) -> u32
     ensures { λ r. ⌜ Given (lookupAnswer answer) r (now (out .entry)) (now (out .exit)) ⌝ }
 {
@@ -91,6 +95,7 @@ pub fn give_found(answer: Lookup, out: &mut bool) -> u32
     }
 }
 
+// A material's number, 0 where the name has none.
 pub fn give_material(answer: Numbered, out: &mut u32) -> u32
     ensures { λ r. ⌜ Given (numberedAnswer answer) r (now (out .entry)) (now (out .exit)) ⌝ }
 {
@@ -103,6 +108,7 @@ pub fn give_material(answer: Numbered, out: &mut u32) -> u32
     }
 }
 
+// A name in a map: block 1 is the conducting map, 2 the via map. All three are 0 where there is none.
 pub fn give_name(answer: NamePlace, block: &mut u32, start: &mut usize, length: &mut usize) -> u32
     ensures { λ r. ⌜ Given (spec.nameAnswer answer) r (spec.theName (now (block .entry)) (now (start .entry)) (now (length .entry))) (spec.theName (now (block .exit)) (now (start .exit)) (now (length .exit))) ⌝ }
 {
@@ -129,6 +135,7 @@ pub fn give_name(answer: NamePlace, block: &mut u32, start: &mut usize, length: 
     }
 }
 
+// A name in the one block that was lent; both are 0 where there is none.
 pub fn give_part(answer: NamePart, start: &mut usize, length: &mut usize) -> u32
     ensures { λ r. ⌜ Given (spec.partAnswer answer) r (spec.thePlaces (now (start .entry)) (now (length .entry))) (spec.thePlaces (now (start .exit)) (now (length .exit))) ⌝ }
 {
@@ -147,6 +154,7 @@ pub fn give_part(answer: NamePart, start: &mut usize, length: &mut usize) -> u32
     }
 }
 
+// A figure that may be absent: its value is 0 then.
 fn give_figure(figure: Figure, present: &mut bool, value: &mut f64)
     ensures { λ r. ⌜ spec.theFigure (now (present .exit)) (now (value .exit)) ≡ spec.figureGiven (figureValue figure) ⌝ }
 {
@@ -162,6 +170,7 @@ fn give_figure(figure: Figure, present: &mut bool, value: &mut f64)
     }
 }
 
+// Whether a layer was found, and its two figures, both absent where it was not.
 pub fn give_layer(
     answer: StackLayer,
     found: &mut bool,
@@ -191,6 +200,7 @@ pub fn give_layer(
     }
 }
 
+// A part of a block; both are 0 where it is empty.
 fn give_span(span: Span, start: &mut usize, length: &mut usize)
     ensures { λ r. ⌜ spec.thePlaces (now (start .exit)) (now (length .exit)) ≡ spec.spanPlaces span ⌝ }
 {
@@ -206,6 +216,7 @@ fn give_span(span: Span, start: &mut usize, length: &mut usize)
     }
 }
 
+// Whether a via was found, and where the names of its two layers stand; 0 for each that is absent.
 pub fn give_via(
     answer: ViaLayers,
     found: &mut bool,
@@ -233,4 +244,18 @@ pub fn give_via(
             0
         }
     }
+}
+
+// Copies the first bytes, as many as the copy has room for, and gives how many there are.
+pub fn give_bytes(bytes: &[u8], copy: &mut [u8]) -> usize
+    ensures { λ r. ⌜ Copied (now (bytes .entry)) r (now (copy .entry)) (now (copy .exit)) ⌝ }
+{
+    let n = bytes.len();
+    let room = copy.len();
+    let mut i = 0;
+    while i < n && i < room {
+        copy[i] = bytes[i];
+        i += 1;
+    }
+    n
 }

@@ -2,10 +2,11 @@
 ghost use mathlib.Core.Path.{_≡_};
 ghost use Rattle.lists.specs.Answer.{status, mapAnswer};
 ghost use Rattle.openrdson_core.specs.Layout.{isMarker, layerName};
-ghost use Rattle.openrdson_core.specs.Maps.{lookup, isSome};
+ghost use Rattle.openrdson_core.specs.Maps.{lookup, isSome, partOf};
 ghost use Rattle.openrdson_core.specs.Tech.{blocksFault, materialNumber, stackLayer, viaLayers};
-ghost use Rattle.c_api.specs.Given.{Given, GivenAs};
+ghost use Rattle.c_api.specs.Given.{Copied, Given, GivenAs};
 ghost use Rattle.c_api.specs.Lookups as spec;
+use crate::answers::give_bytes;
 use crate::answers::give_check;
 use crate::answers::give_found;
 use crate::answers::give_layer;
@@ -72,7 +73,7 @@ pub extern "C" fn openrdson_physical_name(
     start: &mut usize,
     length: &mut usize,
 ) -> u32
-    ensures { λ r. ⌜ GivenAs (spec.nameRead (now (conducting .entry)) (now (via .entry))) (spec.nameInside (now (conducting .entry)) (now (via .entry))) (lookup (now (conducting .entry)) (now (via .entry)) (now (name .entry))) r (spec.theName (now (block .entry)) (now (start .entry)) (now (length .entry))) (spec.theName (now (block .exit)) (now (start .exit)) (now (length .exit))) ⌝ }
+    ensures { λ r. ⌜ GivenAs (spec.NameStands (now (conducting .entry)) (now (via .entry))) (lookup (now (conducting .entry)) (now (via .entry)) (now (name .entry))) r (spec.theName (now (block .entry)) (now (start .entry)) (now (length .entry))) (spec.theName (now (block .exit)) (now (start .exit)) (now (length .exit))) ⌝ }
 {
     give_name(
         openrdson_core::name_place(conducting, via, name),
@@ -80,6 +81,19 @@ pub extern "C" fn openrdson_physical_name(
         start,
         length,
     )
+}
+
+// The same name as bytes; none unless it is found.
+#[no_mangle]
+pub extern "C" fn openrdson_copy_physical_name<'a>(
+    conducting: &'a [u8],
+    via: &'a [u8],
+    name: &[u8],
+    copy: &mut [u8],
+) -> usize
+    ensures { λ r. ⌜ Copied (partOf (lookup (now (conducting .entry)) (now (via .entry)) (now (name .entry)))) r (now (copy .entry)) (now (copy .exit)) ⌝ }
+{
+    give_bytes(openrdson_core::physical_name(conducting, via, name), copy)
 }
 
 #[no_mangle]
@@ -114,7 +128,7 @@ pub extern "C" fn openrdson_via_layers(
     top_start: &mut usize,
     top_length: &mut usize,
 ) -> u32
-    ensures { λ r. ⌜ GivenAs (spec.viaRead (now (vias .entry))) (spec.viaInside (now (vias .entry))) (mapAnswer spec.viaGiven (viaLayers (now (vias .entry)) (now (name .entry)))) r (spec.theVia (now (found .entry)) (spec.thePlaces (now («bottom_start» .entry)) (now («bottom_length» .entry))) (spec.thePlaces (now («top_start» .entry)) (now («top_length» .entry)))) (spec.theVia (now (found .exit)) (spec.thePlaces (now («bottom_start» .exit)) (now («bottom_length» .exit))) (spec.thePlaces (now («top_start» .exit)) (now («top_length» .exit)))) ⌝ }
+    ensures { λ r. ⌜ GivenAs (spec.ViaStands (now (vias .entry))) (viaLayers (now (vias .entry)) (now (name .entry))) r (spec.theVia (now (found .entry)) (spec.thePlaces (now («bottom_start» .entry)) (now («bottom_length» .entry))) (spec.thePlaces (now («top_start» .entry)) (now («top_length» .entry)))) (spec.theVia (now (found .exit)) (spec.thePlaces (now («bottom_start» .exit)) (now («bottom_length» .exit))) (spec.thePlaces (now («top_start» .exit)) (now («top_length» .exit)))) ⌝ }
 {
     give_via(
         openrdson_core::via_layers(vias, name),
@@ -133,7 +147,7 @@ pub extern "C" fn openrdson_layer_name(
     start: &mut usize,
     length: &mut usize,
 ) -> u32
-    ensures { λ r. ⌜ GivenAs (spec.bytesAt (now (names .entry))) (spec.placesIn (now (names .entry))) (mapAnswer spec.orEmpty (layerName (now (names .entry)) layer)) r (spec.thePlaces (now (start .entry)) (now (length .entry))) (spec.thePlaces (now (start .exit)) (now (length .exit))) ⌝ }
+    ensures { λ r. ⌜ GivenAs (spec.StandsIf (now (names .entry))) (layerName (now (names .entry)) layer) r (spec.thePlaces (now (start .entry)) (now (length .entry))) (spec.thePlaces (now (start .exit)) (now (length .exit))) ⌝ }
 {
     give_part(openrdson_core::layer_name(names, layer), start, length)
 }

@@ -1,15 +1,18 @@
 -- What the checks ask of an answer: is it this number, this verdict, these bounds, this kind, this refusal?
 use Prim.Native.Nat.{ℕ}
 use mathlib.Core.Bool.{Bool, true, false, _&&_, Bool·beq}
+use mathlib.Core.List.{List}
 use mathlib.Core.Option.{Option, some, none}
 use lib.Dec.{eqb}
 use lib.Ieee.{Float, eq}
+use lib.ListN.{length}
 use Rattle.lists.specs.Answer.{Answer, refused, given}
 use Rattle.openrdson_core.specs.declared.points.Point.{Point}
 use Rattle.openrdson_core.specs.declared.bounds.Bbox.{Bbox}
 use Rattle.openrdson_core.specs.declared.mesh.ElementType.{ElementType}
 use Rattle.openrdson_core.specs.Mesh.{kindNumber}
-use Rattle.openrdson_core.specs.Tech.{StackFigures}
+use Rattle.openrdson_core.specs.Tech.{StackFigures, ViaNames}
+use Rattle.openrdson_core.specs.Bytes.{same}
 
 -- equal coordinates, equal bounds
 abbrev pub samePoint : Point → Point → Bool
@@ -61,3 +64,23 @@ abbrev pub isHeight : Answer (Option StackFigures) → Float → Bool
 isHeight (refused n) x = false
 isHeight (given none) x = false
 isHeight (given (some f)) x = isFigure (f .height) x && isNone (f .thickness)
+
+-- a name that was found and is this one, none found; the name of a via's layer, absent where it is empty; a via with these layers
+abbrev pub isName : Answer (Option (List ℕ)) → List ℕ → Bool
+isName (refused n) name = false
+isName (given none) name = false
+isName (given (some p)) name = same p name
+
+abbrev pub isNothing : {A : Type 0} → Answer (Option A) → Bool
+isNothing (refused n) = false
+isNothing (given none) = true
+isNothing (given (some a)) = false
+
+abbrev pub isEnd : Option (List ℕ) → List ℕ → Bool
+isEnd none name = eqb (length name) 0
+isEnd (some p) name = same p name
+
+abbrev pub isVia : Answer (Option ViaNames) → List ℕ → List ℕ → Bool
+isVia (refused n) bottom top = false
+isVia (given none) bottom top = false
+isVia (given (some v)) bottom top = isEnd (v .bottom) bottom && isEnd (v .top) top

@@ -2,6 +2,7 @@
 mod answers;
 mod kinds;
 mod names;
+mod parts;
 mod rings;
 mod solids;
 
@@ -17,6 +18,12 @@ pub use names::is_material;
 pub use names::layer_refused;
 pub use names::lookup_refused;
 pub use names::material_refused;
+pub use parts::layer_name_is;
+pub use parts::layer_name_refused;
+pub use parts::physical_name_is;
+pub use parts::place_is;
+pub use parts::via_absent;
+pub use parts::via_is;
 pub use rings::area_is;
 pub use rings::area_refused;
 pub use rings::bounds_are;

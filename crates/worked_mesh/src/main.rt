@@ -1,9 +1,11 @@
-// Meshes: the four kinds, lists of a tet and a hex, and the room in a list of eight.
+// Meshes: the four kinds, lists of a tet and a hex, the room in a list of eight, and a tet beside a pyramid that has one place too many.
 use check::expect;
 use openrdson_core::Counts;
 use openrdson_core::ElementType;
 use openrdson_core::Point3;
 use openrdson_core::counts_within;
+use openrdson_core::element_inside;
+use openrdson_core::element_sound;
 use openrdson_core::has_room;
 use openrdson_core::lists_parallel;
 use worked::kind_is;
@@ -46,8 +48,35 @@ fn points() {
     expect(p.z == 3.0);
 }
 
+fn elements() {
+    let kinds = [0, 3];
+    let places = [
+        0,
+        1,
+        2,
+        3,
+        4294967295,
+        4294967295,
+        4294967295,
+        4294967295,
+        0,
+        1,
+        2,
+        3,
+        4,
+        5,
+        4294967295,
+        4294967295,
+    ];
+    expect(element_sound(&kinds, &places, 0));
+    expect(!element_sound(&kinds, &places, 1));
+    expect(element_inside(&kinds, &places, 0, 4));
+    expect(!element_inside(&kinds, &places, 0, 3));
+}
+
 fn main() {
     kinds();
     lengths();
     points();
+    elements();
 }

@@ -1,4 +1,5 @@
 //! Times of the unchanged Rust and of Rattle on the same inputs, in turns; the best of many. Not a test.
+mod blocks;
 mod inputs;
 
 use inputs::Ring;
@@ -16,6 +17,7 @@ fn main() {
     rectangle("rectangle, 512 points on four corners", &corners);
     bounding_box("bounding box, circle of 512 points", &circle);
     roots("square root, of a million (Rust: hardware)", &inputs::values(1_000_000));
+    blocks::rows();
 }
 
 /// How often a side is timed, the calls in one timing, and the values that a call works on.
@@ -34,7 +36,13 @@ fn row(name: &str, effort: Effort, rust: impl Fn(), rattle: impl Fn()) {
         best_rust = best_rust.min(time(&effort, &rust));
         best_rattle = best_rattle.min(time(&effort, &rattle));
     }
-    println!("{name:44}{best_rust:>11.1} ns{best_rattle:>11.1} ns{:>15.2}", best_rust / best_rattle);
+    println!("{name:44}{best_rust:>11.1} ns{best_rattle:>11.1} ns{:>15.4}", best_rust / best_rattle);
+}
+
+/// The same of what the Rust does not do.
+fn alone(name: &str, effort: Effort, rattle: impl Fn()) {
+    let times = (0..effort.rounds).map(|_| time(&effort, &rattle));
+    println!("{name:44}{:>14}{:>11.1} ns", "", times.fold(f64::INFINITY, f64::min));
 }
 
 /// Nanoseconds a value.

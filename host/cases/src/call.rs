@@ -41,18 +41,22 @@ pub enum Call {
     BoxZTop,
     PrismZBottom,
     PrismZTop,
+    BoxRegionVolume,
+    PrismRegionVolume,
+    CopyPhysicalName,
 }
 
 use Call::*;
 
-pub const CALLS: [Call; 36] = [
+pub const CALLS: [Call; 39] = [
     PolygonSignedArea, PolygonArea, IsCcw, IsAxisAlignedRectangle, BboxFromPoints,
     BoxVolume, PrismVolume, BoxFootprintBbox, PrismFootprintBbox,
     Sqrt, Abs, CeilCapped, NearestCapped,
     CheckBlocks, LookUp, PhysicalName, LayerName, StackLayer, ViaLayers, MaterialNumber, IsMarker,
     CoordinateInRange, ExtentInRange, FigureInRange,
     BboxEmpty, BboxIsEmpty, BboxExtendPoint, BboxExtend, BboxUnion, BboxWidth, BboxHeight, BboxCenter,
-    BoxZBottom, BoxZTop, PrismZBottom, PrismZTop,
+    BoxZBottom, BoxZTop, PrismZBottom, PrismZTop, BoxRegionVolume, PrismRegionVolume,
+    CopyPhysicalName,
 ];
 
 /// The calls that are recorded: those on numbers, and those on name blocks and names.
@@ -115,6 +119,9 @@ impl Call {
             BoxZTop => "box_z_top",
             PrismZBottom => "prism_z_bottom",
             PrismZTop => "prism_z_top",
+            BoxRegionVolume => "box_region_volume",
+            PrismRegionVolume => "prism_region_volume",
+            CopyPhysicalName => "copy_physical_name",
         }
     }
 
@@ -126,7 +133,7 @@ impl Call {
     pub fn blocks(self) -> &'static [Kind] {
         match self {
             CheckBlocks => &[Kind::LayerNames, Kind::Map, Kind::Map, Kind::Stack, Kind::Stack, Kind::Vias],
-            LookUp | PhysicalName => &[Kind::Map, Kind::Map],
+            LookUp | PhysicalName | CopyPhysicalName => &[Kind::Map, Kind::Map],
             LayerName => &[Kind::LayerNames],
             StackLayer => &[Kind::Stack],
             ViaLayers => &[Kind::Vias],
@@ -137,17 +144,33 @@ impl Call {
 
     /// Whether a name is asked for, after the blocks.
     pub fn asks_name(self) -> bool {
-        matches!(self, LookUp | PhysicalName | StackLayer | ViaLayers | MaterialNumber | IsMarker)
+        match self {
+            LookUp | PhysicalName | CopyPhysicalName | StackLayer | ViaLayers | MaterialNumber | IsMarker => true,
+            _ => false,
+        }
     }
 
     /// The refusals it has, in document 01's order.
     pub fn refusals(self) -> &'static [u32] {
         match self {
             PolygonSignedArea | PolygonArea | IsCcw | IsAxisAlignedRectangle | BboxFromPoints => &[16, 2, 1],
-            BoxVolume | BoxFootprintBbox => &[16, 2, 1],
-            PrismVolume | PrismFootprintBbox => &[16, 15, 2, 1],
+            BoxVolume | BoxFootprintBbox | BoxRegionVolume => &[16, 2, 1],
+            PrismVolume | PrismFootprintBbox | PrismRegionVolume => &[16, 15, 2, 1],
             CheckBlocks | StackLayer => &[14, 1],
             LookUp | PhysicalName | LayerName | ViaLayers | MaterialNumber => &[14],
+            _ => &[],
+        }
+    }
+
+    /// The kinds of answers that are counted; each must be drawn.
+    pub fn kinds(self) -> &'static [&'static str] {
+        match self {
+            CheckBlocks => &["fine", "a conductor's figure", "a diffusion's figure"],
+            PhysicalName => &["none", "conducting", "via"],
+            LayerName | CopyPhysicalName => &["none", "found"],
+            MaterialNumber => &["none", "conductor", "diffusion", "via"],
+            call if call.gives() == [Output::Truth] => &["false", "true"],
+            StackLayer | ViaLayers => &["none", "found"],
             _ => &[],
         }
     }
@@ -164,6 +187,8 @@ impl Call {
             BboxCenter => &[Float; 2],
             CheckBlocks => &[],
             PhysicalName => &[Number, Whole, Whole],
+            // The length, then the bytes of the copy.
+            CopyPhysicalName => &[Whole; 6],
             LayerName => &[Whole, Whole],
             StackLayer => &[Truth, Truth, Float, Truth, Float],
             ViaLayers => &[Truth, Whole, Whole, Whole, Whole],

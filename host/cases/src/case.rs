@@ -11,15 +11,20 @@ pub type List = Cow<'static, [f64]>;
 
 /// What a call is given. Parameters are floats by their bits, or whole numbers:
 /// a box its six bounds; a prism z_bottom, z_top, start, count; a method of Bbox the four bounds,
-/// then the other box's or the point; a call on one number, that number; `layer_name`, the layer's number.
-/// Lent are the call's blocks, then the name asked for.
+/// then the other box's or the point; a call on one number, that number; `layer_name`, the layer's number; `copy_physical_name`, the room.
+/// A region has its material, net and polygon too. Lent are the call's blocks, then the name asked for.
 pub struct Case {
     pub call: Call,
     pub xs: List,
     pub ys: List,
     pub params: [u64; 8],
+    pub region: [u32; 3],
     pub lent: Vec<Lent>,
 }
+
+/// A name is copied to the beginning of so many bytes, all this one before.
+pub const COPY: usize = 40;
+pub const BEFORE: u8 = 0xa5;
 
 /// The most values that a call gives.
 pub const VALUES: usize = 7;
@@ -52,6 +57,13 @@ impl Answer {
         Answer::accepted(&words)
     }
 
+    /// A name's length, and the bytes that it was copied to.
+    pub fn copied(length: usize, copy: &[u8; COPY]) -> Self {
+        let words = copy.chunks(8).map(|bytes| u64::from_le_bytes(bytes.try_into().unwrap()));
+        let values: Vec<u64> = std::iter::once(length as u64).chain(words).collect();
+        Answer::accepted(&values)
+    }
+
     pub fn whole(value: u64) -> Self {
         Answer::accepted(&[value])
     }
@@ -64,16 +76,21 @@ impl Case {
         match call {
             PolygonSignedArea | PolygonArea | IsCcw | IsAxisAlignedRectangle | BboxFromPoints => {
                 let (xs, ys) = rings::lists(r, number);
-                Case { call, xs: xs.into(), ys: ys.into(), params: [0; 8], lent: vec![] }
+                Case { call, xs: xs.into(), ys: ys.into(), params: [0; 8], region: [0; 3], lent: vec![] }
             }
             BoxVolume | BoxFootprintBbox => solids::boxed(call, r),
             PrismVolume | PrismFootprintBbox => solids::prism(call, r, number),
+            BoxRegionVolume | PrismRegionVolume => solids::region(call, r, number),
             Sqrt => Case::of_numbers(call, &[roots::draw(r, number)]),
             Abs => Case::of_numbers(call, &[numbers::any(r)]),
-            CheckBlocks | LookUp | PhysicalName | LayerName | StackLayer | ViaLayers | MaterialNumber | IsMarker => {
+            CheckBlocks | LookUp | PhysicalName | CopyPhysicalName | LayerName | StackLayer | ViaLayers
+            | MaterialNumber | IsMarker => {
                 let (lent, layer) = lookups::draw(call, seed, number);
                 let mut case = Case::of_numbers(call, &[]);
                 case.params[0] = layer as u64;
+                if call == CopyPhysicalName {
+                    case.params[0] = if r.one_in(2) { COPY } else { r.below(COPY + 1) } as u64;
+                }
                 case.lent = lent;
                 case
             }
@@ -100,7 +117,7 @@ impl Case {
         for (param, x) in params.iter_mut().zip(numbers) {
             *param = x.to_bits();
         }
-        Case { call, xs: List::Borrowed(&[]), ys: List::Borrowed(&[]), params, lent: vec![] }
+        Case { call, xs: List::Borrowed(&[]), ys: List::Borrowed(&[]), params, region: [0; 3], lent: vec![] }
     }
 
     pub fn float(&self, place: usize) -> f64 {
@@ -120,6 +137,11 @@ impl Case {
     /// A prism's count.
     pub fn count(&self) -> u32 {
         self.params[3] as u32
+    }
+
+    /// How many bytes a name is copied to.
+    pub fn room(&self) -> usize {
+        self.params[0] as usize
     }
 
     /// The layer's number.

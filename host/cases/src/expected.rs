@@ -19,6 +19,18 @@ pub fn answer(case: &Case) -> Answer {
     answer
 }
 
+/// The place of an answer among its call's kinds, if it has one.
+pub fn kind(case: &Case, answer: &Answer) -> Option<usize> {
+    match case.call {
+        CheckBlocks => paper::blocks::checked(answer.status, case.block(3)),
+        _ if answer.status != 0 || case.call.kinds().is_empty() => None,
+        LayerName => Some((answer.values[1] != 0) as usize),
+        CopyPhysicalName => Some((answer.values[0] != 0) as usize),
+        MaterialNumber => Some(paper::blocks::material_kind(answer.values[0], case.block(0), case.block(1))),
+        _ => Some(answer.values[0] as usize),
+    }
+}
+
 fn of_numbers(case: &Case) -> Answer {
     match paper::status(case) {
         0 => of_the_rust(case),
@@ -69,6 +81,8 @@ fn of_the_rust(case: &Case) -> Answer {
         BoxZTop => Answer::floats(&[boxed(case).z_top()]),
         PrismZBottom => Answer::floats(&[flat_prism(case).z_bottom()]),
         PrismZTop => Answer::floats(&[flat_prism(case).z_top()]),
+        BoxRegionVolume => Answer::floats(&[region(case, boxed(case)).volume()]),
+        PrismRegionVolume => Answer::floats(&[region(case, prism(case)).volume()]),
         _ => unreachable!("{} is not a call on numbers", case.call.name()),
     }
 }
@@ -102,6 +116,18 @@ fn prism(case: &Case) -> Solid {
     let part = case.start() as usize..case.start() as usize + case.count() as usize;
     let footprint = points(&case.xs[part.clone()], &case.ys[part]);
     Solid::Prism { footprint, z_bottom: case.float(0), z_top: case.float(1) }
+}
+
+fn region(case: &Case, solid: Solid) -> SolidRegion {
+    let [material_id, net, polygon] = case.region;
+    SolidRegion {
+        material_id,
+        net: (net != 0).then(|| net.to_string()),
+        layer: None,
+        device_ref: None,
+        source_polygon: (polygon != u32::MAX).then_some(polygon as usize),
+        solid,
+    }
 }
 
 /// A prism of whose footprint nothing is asked.

@@ -11,8 +11,8 @@ const SIZE_MOST: f64 = 1_048_576.0;
 pub fn status(case: &Case) -> u32 {
     match case.call {
         PolygonSignedArea | PolygonArea | IsCcw | IsAxisAlignedRectangle | BboxFromPoints => ring(&case.xs, &case.ys),
-        BoxVolume | BoxFootprintBbox => boxed(case),
-        PrismVolume | PrismFootprintBbox => prism(case),
+        BoxVolume | BoxFootprintBbox | BoxRegionVolume => boxed(case),
+        PrismVolume | PrismFootprintBbox | PrismRegionVolume => prism(case),
         _ => 0,
     }
 }

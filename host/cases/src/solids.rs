@@ -45,7 +45,7 @@ pub fn boxed(call: Call, r: &mut Random) -> Case {
     for (param, x) in params.iter_mut().zip(bounds) {
         *param = x.to_bits();
     }
-    Case { call, xs, ys, params, lent: vec![] }
+    Case { call, xs, ys, params, region: [0; 3], lent: vec![] }
 }
 
 fn bounds(r: &mut Random) -> [f64; 6] {
@@ -93,7 +93,7 @@ pub fn prism(call: Call, r: &mut Random, number: u64) -> Case {
 
 fn of(call: Call, heights: [f64; 2], start: u32, count: u32, xs: List, ys: List) -> Case {
     let params = [heights[0].to_bits(), heights[1].to_bits(), start as u64, count as u64, 0, 0, 0, 0];
-    Case { call, xs, ys, params, lent: vec![] }
+    Case { call, xs, ys, params, region: [0; 3], lent: vec![] }
 }
 
 fn heights(r: &mut Random) -> [f64; 2] {
@@ -103,6 +103,13 @@ fn heights(r: &mut Random) -> [f64; 2] {
         2 => [numbers::coordinate(r), numbers::coordinate(r)],
         _ => [r.unit(), r.unit()],
     }
+}
+
+/// A box or a prism with a material, a net and a polygon, of which nothing depends.
+pub fn region(call: Call, r: &mut Random, number: u64) -> Case {
+    let mut case = if call == Call::BoxRegionVolume { boxed(call, r) } else { prism(call, r, number) };
+    case.region = std::array::from_fn(|_| if r.one_in(3) { r.word() as u32 } else { r.pick(&[0, 1, 768, 769, u32::MAX]) });
+    case
 }
 
 /// Parts at the end of a list, past it, and those whose end is past the largest u32.

@@ -1,5 +1,5 @@
 //! What came of the cases of one call.
-use cases::call::{Call, Output};
+use cases::call::Call;
 use cases::case::{Answer, Case};
 use cases::expected;
 use std::fmt;
@@ -7,21 +7,20 @@ use std::fmt;
 /// Mismatches of a call that are printed.
 const PRINTED: u64 = 5;
 
-/// Cases after which a status that was never drawn is a failure.
+/// Cases after which a status or a kind that was never drawn is a failure.
 const ENOUGH: u64 = 1000;
 
 pub struct Tally {
     pub call: Call,
     cases: u64,
     by_status: [u64; 17],
-    /// Accepted cases whose first value is not zero.
-    hits: u64,
+    by_kind: Vec<u64>,
     mismatches: u64,
 }
 
 impl Tally {
     pub fn new(call: Call) -> Self {
-        Tally { call, cases: 0, by_status: [0; 17], hits: 0, mismatches: 0 }
+        Tally { call, cases: 0, by_status: [0; 17], by_kind: vec![0; call.kinds().len()], mismatches: 0 }
     }
 
     /// Runs these cases on both sides.
@@ -30,7 +29,7 @@ impl Tally {
             let case = Case::draw(self.call, seed, number);
             let expected = expected::answer(&case);
             let said = rattle::answer(&case);
-            self.count(&expected);
+            self.count(&case, &expected);
             if said.answer != expected || said.stray {
                 self.mismatches += 1;
                 if self.mismatches <= PRINTED {
@@ -40,16 +39,17 @@ impl Tally {
         }
     }
 
-    fn count(&mut self, expected: &Answer) {
+    fn count(&mut self, case: &Case, expected: &Answer) {
         self.cases += 1;
         self.by_status[expected.status as usize] += 1;
-        if expected.status == 0 && expected.values[0] != 0 {
-            self.hits += 1;
+        if let Some(kind) = expected::kind(case, expected) {
+            self.by_kind[kind] += 1;
         }
     }
 
     fn never_drawn(&self) -> bool {
-        self.by_status[0] == 0 || self.call.refusals().iter().any(|refusal| self.by_status[*refusal as usize] == 0)
+        let statuses = [0].iter().chain(self.call.refusals());
+        statuses.map(|status| self.by_status[*status as usize]).chain(self.by_kind.iter().copied()).any(|cases| cases == 0)
     }
 
     pub fn failed(&self) -> bool {
@@ -60,19 +60,17 @@ impl Tally {
 impl fmt::Display for Tally {
     fn fmt(&self, f: &mut fmt::Formatter) -> fmt::Result {
         write!(f, "{:26}{:9} cases;  0: {}", self.call.name(), self.cases, self.by_status[0])?;
-        match self.call {
-            Call::PhysicalName | Call::LayerName | Call::MaterialNumber => write!(f, " ({} found)", self.hits)?,
-            call if call.gives().first() == Some(&Output::Truth) => write!(f, " ({} true)", self.hits)?,
-            _ => {}
-        }
         for refusal in self.call.refusals() {
             write!(f, "  {refusal}: {}", self.by_status[*refusal as usize])?;
+        }
+        for (kind, cases) in self.call.kinds().iter().zip(&self.by_kind) {
+            write!(f, "  {kind}: {cases}")?;
         }
         if self.mismatches > 0 {
             write!(f, "  MISMATCHES: {}", self.mismatches)?;
         }
         if self.failed() && self.never_drawn() {
-            write!(f, "  A STATUS WAS NEVER DRAWN")?;
+            write!(f, "  A STATUS OR KIND WAS NEVER DRAWN")?;
         }
         Ok(())
     }
@@ -89,7 +87,7 @@ impl fmt::Display for Shown<'_> {
     fn fmt(&self, f: &mut fmt::Formatter) -> fmt::Result {
         let case = self.case;
         writeln!(f, "compare --call {} --seed {} --number {}", case.call.name(), self.seed, self.number)?;
-        writeln!(f, "  parameters {:x?}", case.params)?;
+        writeln!(f, "  parameters {:x?} region {:x?}", case.params, case.region)?;
         show_list(f, "xs", &case.xs)?;
         show_list(f, "ys", &case.ys)?;
         for lent in &case.lent {

@@ -47,6 +47,15 @@ extern "C" {
         z_bottom: f64, z_top: f64, start: u32, count: u32,
         xs: List, nx: usize, ys: List, ny: usize, volume: Out,
     ) -> u32;
+    pub fn openrdson_box_region_volume(
+        material: u32, net: u32, polygon: u32,
+        min_x: f64, min_y: f64, max_x: f64, max_y: f64, z_bottom: f64, z_top: f64,
+        xs: List, nx: usize, ys: List, ny: usize, volume: Out,
+    ) -> u32;
+    pub fn openrdson_prism_region_volume(
+        material: u32, net: u32, polygon: u32, z_bottom: f64, z_top: f64, start: u32, count: u32,
+        xs: List, nx: usize, ys: List, ny: usize, volume: Out,
+    ) -> u32;
     pub fn openrdson_box_footprint_bbox(
         min_x: f64, min_y: f64, max_x: f64, max_y: f64, z_bottom: f64, z_top: f64,
         xs: List, nx: usize, ys: List, ny: usize,
@@ -81,6 +90,9 @@ extern "C" {
         conducting: Bytes, n1: usize, via: Bytes, n2: usize, name: Bytes, n3: usize,
         block: *mut u32, start: *mut usize, length: *mut usize,
     ) -> u32;
+    pub fn openrdson_copy_physical_name(
+        conducting: Bytes, n1: usize, via: Bytes, n2: usize, name: Bytes, n3: usize, copy: *mut u8, n4: usize,
+    ) -> usize;
     pub fn openrdson_layer_name(names: Bytes, n1: usize, layer: i16, start: *mut usize, length: *mut usize) -> u32;
     pub fn openrdson_stack_layer(
         block: Bytes, n1: usize, name: Bytes, n2: usize,

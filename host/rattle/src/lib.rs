@@ -16,6 +16,7 @@ pub fn answer(case: &Case) -> Said {
     let [truth, ..] = outputs.places::<bool>();
     let [a, b, c, d, e, f] = case.floats();
     let (start, count) = (case.start(), case.count());
+    let [material, net, polygon] = case.region;
     let x = a;
     let status = unsafe {
         match case.call {
@@ -26,11 +27,18 @@ pub fn answer(case: &Case) -> Said {
             BboxFromPoints => openrdson_bbox_from_points(xs, nx, ys, ny, o1, o2, o3, o4),
             BoxVolume => openrdson_box_volume(a, b, c, d, e, f, xs, nx, ys, ny, o1),
             PrismVolume => openrdson_prism_volume(a, b, start, count, xs, nx, ys, ny, o1),
+            BoxRegionVolume => {
+                openrdson_box_region_volume(material, net, polygon, a, b, c, d, e, f, xs, nx, ys, ny, o1)
+            }
+            PrismRegionVolume => {
+                openrdson_prism_region_volume(material, net, polygon, a, b, start, count, xs, nx, ys, ny, o1)
+            }
             BoxFootprintBbox => openrdson_box_footprint_bbox(a, b, c, d, e, f, xs, nx, ys, ny, o1, o2, o3, o4),
             PrismFootprintBbox => openrdson_prism_footprint_bbox(a, b, start, count, xs, nx, ys, ny, o1, o2, o3, o4),
             CheckBlocks | LookUp | PhysicalName | LayerName | StackLayer | ViaLayers | MaterialNumber => {
                 lookups::status(case, &mut outputs)
             }
+            CopyPhysicalName => return plain(lookups::copied(case)),
             IsMarker => return whole(openrdson_is_marker(case.name().as_ptr(), case.name().len()) as u64),
             Sqrt => return float(openrdson_sqrt(x)),
             Abs => return float(openrdson_abs(x)),

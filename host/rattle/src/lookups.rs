@@ -2,7 +2,7 @@
 use crate::exports::*;
 use crate::outputs::Outputs;
 use cases::call::Call::*;
-use cases::case::Case;
+use cases::case::{Answer, Case, BEFORE, COPY};
 
 /// The status of the call, its values among the outputs.
 pub unsafe fn status(case: &Case, outputs: &mut Outputs) -> u32 {
@@ -25,4 +25,14 @@ pub unsafe fn status(case: &Case, outputs: &mut Outputs) -> u32 {
         MaterialNumber => openrdson_material_number(a, na, b, nb, c, nc, d, nd, number),
         _ => unreachable!("{} is no call on blocks", case.call.name()),
     }
+}
+
+/// The copy of a physical name.
+pub unsafe fn copied(case: &Case) -> Answer {
+    let [a, b, c] = [case.block(0), case.block(1), case.name()];
+    let mut copy = [BEFORE; COPY];
+    let (to, room) = (copy.as_mut_ptr(), case.room());
+    let (pa, pb, pc) = (a.as_ptr(), b.as_ptr(), c.as_ptr());
+    let length = openrdson_copy_physical_name(pa, a.len(), pb, b.len(), pc, c.len(), to, room);
+    Answer::copied(length, &copy)
 }

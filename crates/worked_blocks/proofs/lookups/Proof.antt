@@ -3,8 +3,6 @@ use Rattle.lists.specs.Lists.{allBelow, first}
 use Rattle.openrdson_core.specs.Bytes.{same, zeros, nameLength, nameOk, little}
 use Rattle.openrdson_core.specs.Blocks.{figuresOk, nameOrNone, blockOk, rowOf}
 use Rattle.openrdson_core.specs.Maps.{lookup}
-use mathlib.Core.Path.{ap}
-use lib.ListN.{length}
 use borrow.Author.Needs.{needs}
 use Rattle.worked_blocks.proofs.lookups.Statement.{statement}
 use Rattle.worked_blocks.proofs.lookups.Tie as tie
@@ -106,38 +104,6 @@ expect-requires-4 : tie.Need-expect-requires-4
 unfolding allBelow first same zeros nameLength nameOk little figuresOk nameOrNone blockOk rowOf lookup
 expect-requires-4 c κs = rw (c .lookup-refused .ensures, c .before .look-up4 .ensures)
 
-slice-aggregate-physical-name : tie.Need-slice-aggregate-physical-name
-slice-aggregate-physical-name c = search needs
-
-slice-aggregate-physical-name-2 : tie.Need-slice-aggregate-physical-name-2
-slice-aggregate-physical-name-2 c = search needs
-
-slice-aggregate-physical-name-3 : tie.Need-slice-aggregate-physical-name-3
-slice-aggregate-physical-name-3 c = search needs
-
-physical-name-requires : tie.Need-physical-name-requires
-physical-name-requires c κs = search needs
-
-expect-requires-5 : tie.Need-expect-requires-5
-unfolding allBelow first same zeros nameLength nameOk little figuresOk nameOrNone blockOk rowOf lookup
-expect-requires-5 c κs = rw (ap length (c .physical-name .ensures))
-
-slice-aggregate-physical-name-4 : tie.Need-slice-aggregate-physical-name-4
-slice-aggregate-physical-name-4 c = search needs
-
-slice-aggregate-physical-name-5 : tie.Need-slice-aggregate-physical-name-5
-slice-aggregate-physical-name-5 c = search needs
-
-slice-aggregate-physical-name-6 : tie.Need-slice-aggregate-physical-name-6
-slice-aggregate-physical-name-6 c = search needs
-
-physical-name-requires-2 : tie.Need-physical-name-requires-2
-physical-name-requires-2 c κs = search needs
-
-expect-requires-6 : tie.Need-expect-requires-6
-unfolding allBelow first same zeros nameLength nameOk little figuresOk nameOrNone blockOk rowOf lookup
-expect-requires-6 c κs = rw (ap length (c .physical-name2 .ensures))
-
 returns : tie.Need-returns
 returns c = search needs
 
@@ -176,14 +142,4 @@ lookups-spec =
     look-up-requires-4
     lookup-refused-requires
     expect-requires-4
-    slice-aggregate-physical-name
-    slice-aggregate-physical-name-2
-    slice-aggregate-physical-name-3
-    physical-name-requires
-    expect-requires-5
-    slice-aggregate-physical-name-4
-    slice-aggregate-physical-name-5
-    slice-aggregate-physical-name-6
-    physical-name-requires-2
-    expect-requires-6
     returns)

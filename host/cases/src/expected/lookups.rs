@@ -1,7 +1,7 @@
 //! What the Rust says of a call on name blocks, built from the rows that the bytes were made of.
 use crate::blocks::{Name, Rows};
 use crate::call::Call::*;
-use crate::case::{Answer, Case};
+use crate::case::{Answer, Case, BEFORE, COPY};
 use oracle::core::layout::LayoutIR;
 use oracle::core::tech::{Conductor, Diffusion, LayerMap, TechStack, Via};
 use oracle::geometry::{assemble_stack, reach};
@@ -38,11 +38,14 @@ fn agrees(case: &Case, blocks: &[&Rows], values: &[u64]) -> Option<bool> {
     }
     let name = std::str::from_utf8(case.name()).ok()?;
     match case.call {
-        LookUp | PhysicalName => {
+        LookUp | PhysicalName | CopyPhysicalName => {
             let map = LayerMap { conducting: map(blocks[0])?, via: map(blocks[1])? };
             let physical = map.conducting.get(name).or_else(|| map.via.get(name));
             if case.call == LookUp {
                 return Some(values[0] == physical.is_some() as u64);
+            }
+            if case.call == CopyPhysicalName {
+                return Some(*values == copied(case, physical).values);
             }
             let block = match (map.conducting.get(name), physical) {
                 (Some(_), _) => 1,
@@ -73,6 +76,16 @@ fn agrees(case: &Case, blocks: &[&Rows], values: &[u64]) -> Option<bool> {
         }
         _ => Some(values[0] == reach::is_marker(name) as u64),
     }
+}
+
+/// The copy of a name that may be absent.
+fn copied(case: &Case, name: Option<&String>) -> Answer {
+    let name = name.map_or(&[][..], |name| name.as_bytes());
+    let mut copy = [BEFORE; COPY];
+    for (byte, of_name) in copy[..case.room()].iter_mut().zip(name) {
+        *byte = *of_name;
+    }
+    Answer::copied(name.len(), &copy)
 }
 
 /// The part of a block that a start and a length stand for; none if both are 0.

@@ -1,7 +1,7 @@
 //! Document 01's name blocks, transcribed: the bytes are read row by row, and a call on them is answered.
 use crate::blocks::Kind;
 use crate::call::Call::*;
-use crate::case::{Answer, Case};
+use crate::case::{Answer, Case, BEFORE, COPY};
 
 /// A row's key, its value, and where the value stands in the block.
 struct Row<'a> {
@@ -11,6 +11,9 @@ struct Row<'a> {
 }
 
 pub fn answer(case: &Case) -> Answer {
+    if case.call == CopyPhysicalName {
+        return copied(case, physical_name(case).unwrap_or(&[]));
+    }
     match values(case) {
         Ok(values) => Answer::accepted(&values),
         Err(refusal) => Answer::refused(refusal),
@@ -66,6 +69,41 @@ fn values(case: &Case) -> Result<Vec<u64>, u32> {
             Ok(vec![place.map_or(0, |place| place as u64 + 1)])
         }
         _ => unreachable!("{} is no call on blocks", case.call.name()),
+    }
+}
+
+/// The physical name; none of damaged blocks, too.
+fn physical_name(case: &Case) -> Option<&[u8]> {
+    let blocks = [rows(Kind::Map, case.block(0))?, rows(Kind::Map, case.block(1))?];
+    blocks.iter().find_map(|block| found(block, case.name())).map(|row| name(row.value))
+}
+
+/// The first bytes of the name, as many as there is room for.
+fn copied(case: &Case, name: &[u8]) -> Answer {
+    let mut copy = [BEFORE; COPY];
+    let kept = name.len().min(case.room());
+    copy[..kept].copy_from_slice(&name[..kept]);
+    Answer::copied(name.len(), &copy)
+}
+
+/// 0 where the six blocks are accepted, 1 where a conductor's figure is refused, else 2; none of damaged blocks.
+pub fn checked(status: u32, conductors: &[u8]) -> Option<usize> {
+    let rows = rows(Kind::Stack, conductors)?;
+    match status {
+        0 => Some(0),
+        1 => Some(if figures(&rows).is_err() { 1 } else { 2 }),
+        _ => None,
+    }
+}
+
+/// 0 for none, 1 a conductor's number, 2 a diffusion's, 3 a via's.
+pub fn material_kind(number: u64, conductors: &[u8], diffusions: &[u8]) -> usize {
+    let count = |block: &[u8]| block[0] as u64 + 256 * block[1] as u64;
+    match number {
+        0 => 0,
+        n if n <= count(conductors) => 1,
+        n if n <= count(conductors) + count(diffusions) => 2,
+        _ => 3,
     }
 }
 

@@ -2,17 +2,11 @@
 use mathlib.Core.Path.{ap, _∙_}
 use mir.Syntax.{w16}
 use mir.ValLaws.{toZ-ofZ}
-use Rattle.lists.specs.Answer.{mapAnswer}
 use Rattle.openrdson_core.specs.Layout.{layerName}
-use Rattle.c_api.specs.Lookups.{orEmpty}
-use Rattle.c_api.proofs.Lookups.{sameAs, readAs, part-read, part-within}
+use Rattle.c_api.proofs.Lookups.{sameAs, saidAs, part-stands}
 use borrow.Author.Needs.{needs}
 use Rattle.c_api.proofs.blocks.openrdson_layer_name.Statement.{statement}
 use Rattle.c_api.proofs.blocks.openrdson_layer_name.Tie as tie
-use Rattle.c_api.proofs.blocks.openrdson_layer_name.Reads as reads
-use Rattle.c_api.proofs.blocks.openrdson_layer_name.Lts as lts
-use Rattle.c_api.proofs.answers.give_part.Reads as give-part-reads
-use Rattle.openrdson_core.proofs.layer_name.Reads as layer-name-reads
 
 layer-name-requires : tie.Need-layer-name-requires
 layer-name-requires c κs = search needs
@@ -21,7 +15,7 @@ give-part-requires : tie.Need-give-part-requires
 give-part-requires c κs = search needs
 
 returns : tie.Need-returns
-returns c = sameAs (part-read (c .before .before .before .before .before .args .names .now) (c .before .before .before .layer-name .result) ∙ ap (mapAnswer orEmpty) (c .before .before .before .layer-name .ensures .0 ∙ ap (layerName (c .before .before .before .before .before .args .names .now)) (toZ-ofZ w16 (c .before .before .before .before .before .args .layer) (c .before .before .before .before .before .fits .layer)))) (readAs _ _ _ (part-within (c .before .before .before .before .before .args .names .now) (c .before .before .before .layer-name .result) (c .before .before .before .layer-name .ensures .1)) (c .give-part .ensures))
+returns c = sameAs (c .before .before .before .layer-name .ensures .0 ∙ ap (layerName (c .before .before .before .before .before .args .names .now)) (toZ-ofZ w16 (c .before .before .before .before .before .args .layer) (c .before .before .before .before .before .fits .layer))) (saidAs _ _ _ (part-stands (c .before .before .before .before .before .args .names .now) (c .before .before .before .layer-name .result) (c .before .before .before .layer-name .ensures .1)) (c .give-part .ensures))
 
 pub openrdson-layer-name-spec : {M : Type 1} → statement M
 openrdson-layer-name-spec = tie.close (tie.spec layer-name-requires give-part-requires returns)

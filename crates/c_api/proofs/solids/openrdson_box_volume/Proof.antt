@@ -1,12 +1,12 @@
 -- `openrdson_box_volume` meets its contract. Assumes nothing.
+use Rattle.c_api.proofs.SolidCalls.{volume-of}
 use Rattle.c_api.proofs.Same.{same}
 use borrow.Author.Needs.{needs}
 use Rattle.c_api.proofs.solids.openrdson_box_volume.Statement.{statement}
 use Rattle.c_api.proofs.solids.openrdson_box_volume.Tie as tie
-use Rattle.c_api.proofs.solids.openrdson_box_volume.Reads as reads
-use Rattle.c_api.proofs.solids.openrdson_box_volume.Lts as lts
-use Rattle.c_api.proofs.answers.give_number.Reads as give-number-reads
-use Rattle.openrdson_core.proofs.solids.Solid.volume.Reads as volume-reads
+
+boxed-requires : tie.Need-boxed-requires
+boxed-requires c κs = search needs
 
 volume-requires : tie.Need-volume-requires
 volume-requires c κs = search needs
@@ -15,7 +15,8 @@ give-number-requires : tie.Need-give-number-requires
 give-number-requires c κs = search needs
 
 returns : tie.Need-returns
-returns c = same (c .before .before .volume .ensures) (c .give-number .ensures)
+returns c = same (volume-of (c .before .before .before .before .before .before .args .xs .now) (c .before .before .before .before .before .before .args .ys .now) (c .before .before .before .boxed .ensures) (c .before .before .volume .ensures)) (c .give-number .ensures)
 
 pub openrdson-box-volume-spec : {M : Type 1} → statement M
-openrdson-box-volume-spec = tie.close (tie.spec volume-requires give-number-requires returns)
+openrdson-box-volume-spec =
+    tie.close (tie.spec boxed-requires volume-requires give-number-requires returns)

@@ -6,8 +6,8 @@ use Rattle.openrdson_core.specs.Tech.{figuresIn, stackIn, stackLayer, materialO
 use Rattle.binary64.specs.Numbers.{atMost}
 use lib.Ieee.{eq, ofBits}
 use borrow.Author.Needs.{needs}
-use Rattle.worked_blocks.proofs.stacks.Statement.{statement}
-use Rattle.worked_blocks.proofs.stacks.Tie as tie
+use Rattle.worked_stacks.proofs.stacks.Statement.{statement}
+use Rattle.worked_stacks.proofs.stacks.Tie as tie
 
 array-write-stack : tie.Need-array-write-stack
 array-write-stack c = search needs
