@@ -90,38 +90,28 @@ below-within true false a b = and-before (ltb 0 (a + b)) (ltb a b) (λ t. let h 
 below-within false true a b = refl
 below-within true true a b = and-before (ltb b a) false (λ t. absurd t)
 
--- ---- a size within e: the number is between -e and e
+-- ---- a size within e, or below it: the number is between -e and e
+between : (d e : Float) → (le (abs d) e ≡ (le d e && le (neg e) d)) × (lt (abs d) e ≡ (lt d e && lt (neg e) d))
+unfolding abs neg le lt
+between nan e = (refl, refl)
+between (inf true) nan = (refl, refl)
+between (inf false) nan = (refl, refl)
+between (inf true) (inf true) = (refl, refl)
+between (inf true) (inf false) = (refl, refl)
+between (inf false) (inf true) = (refl, refl)
+between (inf false) (inf false) = (refl, refl)
+between (inf true) (fin t n g) = (refl, refl)
+between (inf false) (fin t n g) = (refl, refl)
+between (fin s m e) nan = (refl, refl)
+between (fin s m e) (inf true) = (refl, refl)
+between (fin s m e) (inf false) = (refl, refl)
+between (fin s m e) (fin t n g) = (level-within s t (m * up e * down g) (n * up g * down e), below-within s t (m * up e * down g) (n * up g * down e))
+
 pub within-abs : (d e : Float) → le (abs d) e ≡ (le d e && le (neg e) d)
-unfolding abs neg le
-within-abs nan e = refl
-within-abs (inf true) nan = refl
-within-abs (inf false) nan = refl
-within-abs (inf true) (inf true) = refl
-within-abs (inf true) (inf false) = refl
-within-abs (inf false) (inf true) = refl
-within-abs (inf false) (inf false) = refl
-within-abs (inf true) (fin t n g) = refl
-within-abs (inf false) (fin t n g) = refl
-within-abs (fin s m e) nan = refl
-within-abs (fin s m e) (inf true) = refl
-within-abs (fin s m e) (inf false) = refl
-within-abs (fin s m e) (fin t n g) = level-within s t (m * up e * down g) (n * up g * down e)
+within-abs d e = between d e .0
 
 pub below-abs : (d e : Float) → lt (abs d) e ≡ (lt d e && lt (neg e) d)
-unfolding abs neg lt
-below-abs nan e = refl
-below-abs (inf true) nan = refl
-below-abs (inf false) nan = refl
-below-abs (inf true) (inf true) = refl
-below-abs (inf true) (inf false) = refl
-below-abs (inf false) (inf true) = refl
-below-abs (inf false) (inf false) = refl
-below-abs (inf true) (fin t n g) = refl
-below-abs (inf false) (fin t n g) = refl
-below-abs (fin s m e) nan = refl
-below-abs (fin s m e) (inf true) = refl
-below-abs (fin s m e) (inf false) = refl
-below-abs (fin s m e) (fin t n g) = below-within s t (m * up e * down g) (n * up g * down e)
+below-abs d e = between d e .1
 
 -- ---- size at most 2 ^ k
 pub atMost-is : (k : ℕ) (x : Float) → atMost k x ≡ le (abs x) (fin false 1 (pos k))

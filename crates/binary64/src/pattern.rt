@@ -3,13 +3,14 @@ ghost use mathlib.Core.Path.{_≡_};
 ghost use mathlib.Core.Bool.{true, false};
 ghost use lib.Ieee.{binary64, inf, ofBits};
 
-// As Rust's `f64::INFINITY` and `f64::NEG_INFINITY`.
+// As Rust's `f64::INFINITY`.
 pub fn infinity() -> f64
     ensures { λ r. ⌜ r ≡ inf false ⌝ }
 {
     1.0 / 0.0
 }
 
+// As Rust's `f64::NEG_INFINITY`.
 pub fn minus_infinity() -> f64
     ensures { λ r. ⌜ r ≡ inf true ⌝ }
 {

@@ -1,6 +1,6 @@
 -- A loop that takes a state from place to place. Its invariant: the state is `foldBelow i step start`. Assumes nothing.
 use mathlib.Core.Path.{_≡_, refl, sym, ap, _∙_}
-use Prim.Native.Nat.{ℕ, suc, _+_}
+use Prim.Native.Nat.{ℕ, _+_}
 use native.Mathlib.Numerals.{add-one}
 use Rattle.lists.specs.Lists.{foldBelow}
 

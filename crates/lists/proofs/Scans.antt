@@ -1,9 +1,9 @@
 -- A loop that tests place after place: it goes on while the test holds, or notes whether it ever held.
 -- The invariant of the first is `allBelow i test ≡ true`, of the second `seen ≡ anyBelow i test`. Assumes nothing.
-use mathlib.Core.Path.{_≡_, refl, sym, ap, _∙_, subst}
+use mathlib.Core.Path.{_≡_, refl, sym, ap, _∙_}
 use mathlib.Core.Bool.{Bool, true, false, _&&_, _||_}
-use mathlib.Core.Logic.{_⊎_, inl, inr, ⊎-elim}
-use Prim.Native.Nat.{ℕ, zero, suc, _+_, _<_, _≤_}
+use mathlib.Core.Logic.{_⊎_, ⊎-elim}
+use Prim.Native.Nat.{ℕ, zero, suc, _+_, _<_}
 use native.Mathlib.Nat.{eq-or-lt-of-le, le-of-suc-le-suc}
 use native.Mathlib.Numerals.{add-one}
 use native.Mathlib.Omega.{arith}
@@ -17,7 +17,8 @@ or-true : (p : Bool) → (p || true) ≡ true
 or-true true = refl
 or-true false = refl
 
-both : (p q : Bool) → (p && q) ≡ true → (p ≡ true) × (q ≡ true)
+-- what && tells
+pub both : (p q : Bool) → (p && q) ≡ true → (p ≡ true) × (q ≡ true)
 both true true e = (refl, refl)
 both true false e = (refl, e)
 both false q e = let z : _≡_ {A = Bool} false true = e in (e, cc)

@@ -1,36 +1,21 @@
--- Cells of a block as a program lends them, and what a sound block tells. Assumes nothing.
-use mathlib.Core.Path.{_≡_, refl, sym, ap, _∙_}
-use mathlib.Core.Bool.{Bool, true, false, not, _&&_, _||_}
+-- What a sound block tells, and the row that a name finds. Assumes nothing.
+use mathlib.Core.Path.{_≡_, sym, ap, _∙_}
+use mathlib.Core.Bool.{Bool, true, not, _&&_, _||_}
 use mathlib.Core.List.{List}
-use mathlib.Core.Option.{Option, some, none}
-use Prim.Native.Nat.{ℕ, _+_, _*_, _-_, _≤_, _<_}
+use mathlib.Core.Option.{some, none, Option·map}
+use Prim.Native.Nat.{ℕ, _+_, _*_, _≤_, _<_}
 use native.Mathlib.Omega.{arith}
 use lib.Dec.{eqb, leb}
-use lib.ListN.{length, take, drop}
-use lib.Seq.{take-take}
+use lib.ListN.{length}
 use borrow.Author.Tests.{eqb-true, leb-true}
 use Rattle.lists.specs.Lists.{part, allBelow}
-use Rattle.lists.proofs.Parts.{part-lent, part-length}
+use Rattle.lists.proofs.Parts.{part-head}
+use Rattle.lists.proofs.Scans.{both}
 use Rattle.lists.proofs.Searches.{first-below}
 use Rattle.openrdson_core.specs.Bytes.{same, unpad, nameLength}
-use Rattle.openrdson_core.specs.Blocks.{widthOf, cellOk, count, keyAt, valueAt, distinct, blockOk, rowOf, mapOption, entryOf}
+use Rattle.openrdson_core.specs.Blocks.{widthOf, cellOk, count, keyAt, valueAt, distinct, blockOk, rowOf, entryOf}
 use Rattle.openrdson_core.specs.declared.blocks.Cell.{Cell}
 use Rattle.openrdson_core.specs.declared.blocks.Cell.the-variants.{Name}
-
--- cell i of those of w bytes from place `from` on, lent as s[at..at + v]
-pub cell-lent : (s : List ℕ) (from i w : ℕ) {at v : ℕ} → at ≡ from + i * w → v ≡ w → take (at + v - at) (drop at s) ≡ part (from + i * w) w s
-cell-lent s from i w {at} {v} e f = part-lent s at v ∙ ap (λ (k : ℕ). part k v s) e ∙ ap (λ (k : ℕ). part (from + i * w) k s) f
-
-pub lent-length : (s : List ℕ) (at v : ℕ) → at + v ≤ length s → length (take (at + v - at) (drop at s)) ≡ v
-lent-length s at v h = ap length (part-lent s at v) ∙ part-length s at v h
-
-first-of : (p q : Bool) → (p && q) ≡ true → p ≡ true
-first-of true q e = refl
-first-of false q e = e
-
-second-of : (p q : Bool) → (p && q) ≡ true → q ≡ true
-second-of true q e = e
-second-of false q e = cc
 
 -- a sound block counts at most 256 rows, and has exactly their length
 pub record Counted (k v : Cell) (s : List ℕ) : Type 0 where
@@ -44,8 +29,9 @@ counted k v once s e =
     let b = eqb (length s) (2 + count s * (widthOf k + widthOf v)) in
     let c = allBelow (count s) (λ i. cellOk k (keyAt k s i)) in
     let d = allBelow (count s) (λ i. cellOk v (valueAt k v s i)) in
-    let ab = first-of (a && b) c (first-of (a && b && c) d (first-of (a && b && c && d) (not once || distinct (count s) (keyAt k s)) e)) in
-    record { few = leb-true (count s) 256 (first-of a b ab); long = eqb-true (length s) (2 + count s * (widthOf k + widthOf v)) (second-of a b ab) }
+    let four = both (a && b && c && d) (not once || distinct (count s) (keyAt k s)) e in
+    let two = both a b (both (a && b) c (both (a && b && c) d (four .0) .0) .0) in
+    record { few = leb-true (count s) 256 (two .0); long = eqb-true (length s) (2 + count s * (widthOf k + widthOf v)) (two .1) }
 
 -- the row found is a row
 pub row-below : (s name : List ℕ) (i : ℕ) → some i ≡ rowOf s name → i < count s
@@ -54,11 +40,11 @@ row-below s name i e = let h : i < 0 + count s = first-below (λ k. same (unpad 
 
 -- a name in a cell is the start of the cell
 pub unpad-part : (s : List ℕ) (start : ℕ) → nameLength (part start 32 s) ≤ 32 → unpad (part start 32 s) ≡ part start (nameLength (part start 32 s)) s
-unpad-part s start h = take-take (nameLength (part start 32 s)) 32 (drop start s) h
+unpad-part s start h = part-head s start (nameLength (part start 32 s)) 32 h
 
 -- the value of the row found, and of none
 pub entry-some : (v : Cell) (s name : List ℕ) (i start : ℕ) → some i ≡ rowOf s name → start ≡ 2 + count s * 32 + i * widthOf v → some (part start (widthOf v) s) ≡ entryOf v s name
-entry-some v s name i start e at = ap (λ (k : ℕ). some (part k (widthOf v) s)) at ∙ ap (mapOption (valueAt Name v s)) e
+entry-some v s name i start e at = ap (λ (k : ℕ). some (part k (widthOf v) s)) at ∙ ap (Option·map (valueAt Name v s)) e
 
 pub entry-none : (v : Cell) (s name : List ℕ) → none ≡ rowOf s name → none ≡ entryOf v s name
-entry-none v s name e = ap (mapOption (valueAt Name v s)) e
+entry-none v s name e = ap (Option·map (valueAt Name v s)) e

@@ -1,16 +1,14 @@
 -- Names and little-endian numbers in lists of bytes. Assumes nothing.
-use mathlib.Core.Path.{_≡_, refl, sym, ap, _∙_}
+use mathlib.Core.Path.{_≡_, sym, ap}
 use mathlib.Core.Option.{Option, some, none, Option·getD}
 use mathlib.Core.List.{List, [], _∷_}
 use Prim.Native.Nat.{ℕ, zero, suc, _+_, _*_, _-_, _^_, _≤_, _<_}
 use native.Mathlib.Nat.{not-suc-le-zero, le-of-suc-le-suc, pow-suc}
-use native.Mathlib.Numerals.{add-one}
 use native.Mathlib.Omega.{arith}
 use lib.Dec.{eqb}
-use lib.ListN.{length, getD, drop, length-drop}
-use lib.Pow.{pow-pos}
-use lib.Seq.{drop-cons, getD-drop}
+use lib.ListN.{length, getD, drop}
 use Rattle.lists.specs.Lists.{first}
+use Rattle.lists.proofs.Parts.{rest-back, rest-most, rest-each}
 use Rattle.openrdson_core.specs.Bytes.{byteAt, nameLength, little}
 
 -- the length of a name, by where the first zero is
@@ -24,14 +22,9 @@ name-whole s e = sym (ap (λ (o : Option ℕ). Option·getD o (length s)) e)
 
 -- ---- numbers, from the last byte on
 
-little-at : (c : List ℕ) (i : ℕ) → i < length c → little (drop i c) ≡ getD c i 0 + 256 * little (drop (i + 1) c)
-unfolding little
-little-at c i h = rw (add-one i, drop-cons c i 0 h)
-
 pub little-back : (c : List ℕ) (i : ℕ) → 0 < i → i ≤ length c → little (drop (i - 1) c) ≡ getD c (i - 1) 0 + 256 * little (drop i c)
-little-back c i p h =
-    let e : i - 1 + 1 ≡ i = omega arith in
-    rw e at (little-at c (i - 1) (omega arith))
+unfolding little
+little-back c i p h = ap little (rest-back c i 0 p h)
 
 pub little-below : (n : ℕ) (c : List ℕ) → ((i : ℕ) → getD c i 0 < 256) → length c ≤ n → little c < 256 ^ n
 unfolding little
@@ -45,4 +38,4 @@ little-below (suc n) (x ∷ c) b h = omega (arith, little-below n c (λ i. b (su
 
 -- at most eight bytes make a u64
 pub little-fits : (c : List ℕ) (i : ℕ) → ((k : ℕ) → getD c k 0 < 256) → length c ≤ 8 → little (drop i c) < 2 ^ 64
-little-fits c i b h = little-below 8 (drop i c) (λ k. rw (getD-drop i c k 0) (b (i + k))) (omega (arith, length-drop i c))
+little-fits c i b h = little-below 8 (drop i c) (rest-each c (λ n. n < 256) 0 b i) (rest-most c i 8 h)

@@ -1,27 +1,24 @@
 -- The name that is the value of a row, in a block with keys k. Assumes nothing.
-use mathlib.Core.Path.{_≡_, refl, sym, ap, _∙_}
+use mathlib.Core.Path.{_≡_, sym, ap, _∙_}
 use mathlib.Core.List.{List}
-use mathlib.Core.Option.{Option, some, none}
-use Prim.Native.Nat.{ℕ, _+_, _*_, _-_, _≤_}
-use lib.ListN.{length, take, drop}
+use mathlib.Core.Option.{Option, some, none, Option·map}
+use Prim.Native.Nat.{ℕ, _+_, _*_, _≤_}
 use Rattle.lists.specs.Lists.{part}
-use Rattle.lists.proofs.Parts.{part-lent}
 use Rattle.openrdson_core.specs.Bytes.{unpad, nameLength}
-use Rattle.openrdson_core.specs.Blocks.{widthOf, count, valueAt, mapOption}
+use Rattle.openrdson_core.specs.Blocks.{widthOf, count, valueAt}
 use Rattle.openrdson_core.specs.declared.blocks.Cell.{Cell}
 use Rattle.openrdson_core.specs.declared.blocks.Cell.the-variants.{Name}
 use Rattle.openrdson_core.proofs.BlockLaws.{unpad-part}
 
 module _ (k : Cell) (s : List ℕ) (row : Option ℕ) where
-  pub name-none : none ≡ row → none ≡ mapOption unpad (mapOption (valueAt k Name s) row)
-  name-none e = ap (λ (o : Option ℕ). mapOption unpad (mapOption (valueAt k Name s) o)) e
+  pub name-none : none ≡ row → none ≡ Option·map unpad (Option·map (valueAt k Name s) row)
+  name-none e = ap (λ (o : Option ℕ). Option·map unpad (Option·map (valueAt k Name s) o)) e
 
   -- row i, whose value starts at `start` and has a name of `n` bytes
-  pub name-some : (i start n : ℕ) → some i ≡ row → start ≡ 2 + count s * widthOf k + i * 32 → n ≡ nameLength (take (start + 32 - start) (drop start s)) → n ≤ 32
-      → some (part start n s) ≡ mapOption unpad (mapOption (valueAt k Name s) row)
-  name-some i start n e at len few =
-      let long : n ≡ nameLength (part start 32 s) = len ∙ ap nameLength (part-lent s start 32) in
+  pub name-some : (i start n : ℕ) → some i ≡ row → start ≡ 2 + count s * widthOf k + i * 32 → n ≡ nameLength (part start 32 s) → n ≤ 32
+      → some (part start n s) ≡ Option·map unpad (Option·map (valueAt k Name s) row)
+  name-some i start n e at long few =
       ap (λ (l : ℕ). some (part start l s)) long
       ∙ ap some (sym (unpad-part s start (rw (← long) few)))
       ∙ ap (λ (l : ℕ). some (unpad (part l 32 s))) at
-      ∙ ap (λ (o : Option ℕ). mapOption unpad (mapOption (valueAt k Name s) o)) e
+      ∙ ap (λ (o : Option ℕ). Option·map unpad (Option·map (valueAt k Name s) o)) e

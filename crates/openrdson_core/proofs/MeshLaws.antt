@@ -2,24 +2,19 @@
 use mathlib.Core.Path.{_≡_, refl, sym, ap, _∙_}
 use mathlib.Core.Bool.{Bool, true, false, _&&_, _||_}
 use mathlib.Core.List.{List}
-use mathlib.Core.Option.{some, none}
+use mathlib.Core.Option.{Option, some, none}
 use Prim.Native.Nat.{ℕ, _+_, _*_, _/_, _%_, _<_, _≤_}
 use native.Mathlib.Omega.{arith}
 use lib.Dec.{eqb, leb, ltb}
-use lib.ListN.{length, drop, getD}
-use lib.Seq.{getD-take, getD-drop}
+use lib.ListN.{length, getD}
 use borrow.Author.Tests.{eq-eqb, ne-eqb, eqb-true, lt-ltb, le-ltb, ltb-true, leb-true}
 use Rattle.lists.specs.Lists.{allBelow}
-use Rattle.lists.proofs.Scans.{all-start, all-from, all-more, all-fails, all-at}
-use Rattle.openrdson_core.specs.Mesh.{Mesh, unused, kindNumber, nodeCount, kindOf, parallelLengths, parallel, withinLengths, within, fits, restUnused, firstBelow, soundElement, insideElement, validElement, kindAt, placesOf, usedOf, kindOk, unusedOk, usedBelow, elementOk, wellFormed}
+use Rattle.lists.proofs.Parts.{part-at}
+use Rattle.lists.proofs.Scans.{both, all-from, all-more, all-fails, all-at}
+use Rattle.openrdson_core.specs.Mesh.{Mesh, unused, kindNumber, nodeCount, kindOf, parallelLengths, parallel, withinLengths, within, fits, known, usedPlaces, restUnused, firstBelow, soundElement, validElement, kindAt, placesOf, usedOf, kindOk, unusedOk, usedBelow, elementOk, wellFormed}
 use Rattle.openrdson_core.specs.declared.mesh.ElementType.{ElementType}
 use Rattle.openrdson_core.specs.declared.mesh.ElementType.the-variants.{Tet, Hex, Prism, Pyramid}
 use Rattle.openrdson_core.specs.declared.mesh.Counts.{Counts}
-
-both : (p q : Bool) → (p && q) ≡ true → (p ≡ true) × (q ≡ true)
-both true true e = (refl, refl)
-both true false e = (refl, e)
-both false q e = let z : _≡_ {A = Bool} false true = e in (e, cc)
 
 same-test : (p q : Bool) → (p ≡ true → q ≡ true) → (q ≡ true → p ≡ true) → p ≡ q
 same-test true q f g = sym (f refl)
@@ -93,8 +88,12 @@ used-most Hex = omega arith
 used-most Prism = omega arith
 used-most Pyramid = omega arith
 
-pub count-most : (k : ℕ) {t : ElementType} {n : ℕ} → kindOf k ≡ some t → n ≡ nodeCount t → n ≤ 8
-count-most k {t} e is = omega (arith, is, used-most t)
+-- a kind uses some place
+pub used-some : (t : ElementType) → 0 < nodeCount t
+used-some Tet = omega arith
+used-some Hex = omega arith
+used-some Prism = omega arith
+used-some Pyramid = omega arith
 
 module _ (n : ℕ) (places : List ℕ) where
   -- place i is one of the first n, or unused
@@ -121,21 +120,22 @@ module _ (nodes : ℕ) (places : List ℕ) where
   unfolding firstBelow
   place-below n e i l = ltb-true _ _ (all-at belowAt n e i l)
 
-module _ (k : ℕ) (places : List ℕ) where
-  -- an element of no kind is not sound, and uses no place
-  pub sound-none : kindOf k ≡ none → soundElement k places ≡ false
-  sound-none e = rw e
+-- there is such a kind where some place is used, and only there
+known-used : (o : Option ElementType) → (usedPlaces o ≡ 0 → ⊥) → known o ≡ true
+known-used (some t) h = refl
+known-used none h = absurd (h refl)
 
-  pub inside-none : (nodes : ℕ) → kindOf k ≡ none → insideElement nodes k places ≡ true
-  unfolding firstBelow
-  inside-none nodes e = rw e (all-start (belowAt nodes places))
+unknown-unused : (o : Option ElementType) → usedPlaces o ≡ 0 → known o ≡ false
+unknown-unused (some t) h = absurd (omega (arith, used-some t))
+unknown-unused none h = refl
 
-  -- of an element of a kind with n nodes, the places from n on, and those before
-  pub sound-is : {t : ElementType} {n : ℕ} → kindOf k ≡ some t → n ≡ nodeCount t → soundElement k places ≡ restUnused n places
-  sound-is e is = rw e (ap (λ (i : ℕ). restUnused i places) (sym is))
+-- of an element that uses n places: it is not sound where n is 0, else its places from n on decide
+module _ (k : ℕ) (places : List ℕ) {n : ℕ} (is : n ≡ usedPlaces (kindOf k)) where
+  pub sound-none : n ≡ 0 → soundElement k places ≡ false
+  sound-none e = rw (unknown-unused (kindOf k) (sym is ∙ e))
 
-  pub inside-is : {t : ElementType} {n : ℕ} (nodes : ℕ) → kindOf k ≡ some t → n ≡ nodeCount t → insideElement nodes k places ≡ firstBelow n nodes places
-  inside-is nodes e is = rw e (ap (λ (i : ℕ). firstBelow i nodes places) (sym is))
+  pub sound-is : (n ≡ 0 → ⊥) → soundElement k places ≡ restUnused n places
+  sound-is h = rw (known-used (kindOf k) (λ e. h (is ∙ e))) (ap (λ (i : ℕ). restUnused i places) (sym is))
 
 -- ---- an element of a mesh
 
@@ -178,7 +178,7 @@ used-below c m h e l i k = place-below (c .nodes) (placesOf m e) (usedOf m e) (w
 
 -- its place i is entry 8 e + i of the list of places
 pub place-at : (m : Mesh) (e i : ℕ) → i < 8 → getD (placesOf m e) i 0 ≡ getD (m .places) (8 * e + i) 0
-place-at m e i l = getD-take 8 (drop (8 * e) (m .places)) i 0 l ∙ getD-drop (8 * e) (m .places) i 0
+place-at m e i l = part-at (m .places) (8 * e) 8 i 0 l
 
 -- its places are within the list of places
 pub places-within : (m : Mesh) (e : ℕ) → parallel m ≡ true → e < length (m .kinds) → 8 * e + 8 ≤ length (m .places)

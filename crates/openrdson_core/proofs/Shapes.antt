@@ -1,7 +1,7 @@
 -- Document 01's shapes that speak of this crate's calls, worked out by the definitions. Assumes nothing.
 use mathlib.Core.Path.{_≡_, refl}
 use mathlib.Core.Bool.{true, false}
-use mathlib.Core.List.{List, [], _∷_}
+use mathlib.Core.List.{[], _∷_}
 use lib.IntN.{pos, negsuc}
 use lib.Ieee.{Float, fin, add, sub, mul, div, lt, eq, le, ofBits, round}
 use Rattle.lists.specs.Answer.{given}

@@ -2,7 +2,7 @@
 use Prim.Native.Nat.{ℕ, _+_, _*_, _%_}
 use mathlib.Core.Bool.{Bool, true, false, not, _&&_, _||_}
 use mathlib.Core.List.{List}
-use mathlib.Core.Option.{Option, some, none}
+use mathlib.Core.Option.{Option, some, none, Option·map}
 use lib.Dec.{eqb, leb}
 use lib.ListN.{length}
 use Rattle.lists.specs.Lists.{part, allBelow, first}
@@ -79,10 +79,6 @@ viasOk s = blockOk Name Ends false s
 unfoldable pub rowOf : List ℕ → List ℕ → Option ℕ
 rowOf s name = first (λ i. same (unpad (keyAt Name s i)) name) (count s) 0
 
-abbrev pub mapOption : {A B : Type 0} → (A → B) → Option A → Option B
-mapOption f none = none
-mapOption f (some a) = some (f a)
-
 -- the value of that row
 abbrev pub entryOf : Cell → List ℕ → List ℕ → Option (List ℕ)
-entryOf v s name = mapOption (valueAt Name v s) (rowOf s name)
+entryOf v s name = Option·map (valueAt Name v s) (rowOf s name)

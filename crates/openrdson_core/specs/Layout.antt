@@ -2,7 +2,7 @@
 use Prim.Native.Nat.{ℕ, _+_, _-_, _≤_}
 use mathlib.Core.Bool.{Bool, _||_}
 use mathlib.Core.List.{List, [], _∷_}
-use mathlib.Core.Option.{Option, some, none}
+use mathlib.Core.Option.{Option, some, none, Option·map}
 use lib.Dec.{eqb}
 use lib.IntN.{ℤ, pos, negsuc}
 use lib.ListN.{length}
@@ -10,7 +10,7 @@ use Rattle.lists.specs.Answer.{Answer, refused, given, unless}
 use Rattle.lists.specs.Lists.{part, first}
 use Rattle.openrdson_core.specs.Refusals.{refusalNumber}
 use Rattle.openrdson_core.specs.Bytes.{unpad, little, startsWith, contains}
-use Rattle.openrdson_core.specs.Blocks.{count, keyAt, valueAt, layerNamesOk, mapOption}
+use Rattle.openrdson_core.specs.Blocks.{count, keyAt, valueAt, layerNamesOk}
 use Rattle.openrdson_core.specs.declared.blocks.Cell.the-variants.{Number, Name}
 use Rattle.openrdson_core.specs.declared.layout.NamePart.{NamePart}
 use Rattle.openrdson_core.specs.declared.layout.NamePart.the-variants as named
@@ -26,7 +26,7 @@ rowOfPattern s bits = first (λ i. eqb (little (keyAt Number s i)) bits) (count 
 
 -- its logical name, without the padding: 14
 abbrev pub nameOfLayer : List ℕ → ℤ → Option (List ℕ)
-nameOfLayer s layer = mapOption unpad (mapOption (valueAt Number Name s) (rowOfPattern s (patternOf layer)))
+nameOfLayer s layer = Option·map unpad (Option·map (valueAt Number Name s) (rowOfPattern s (patternOf layer)))
 
 unfoldable pub layerName : List ℕ → ℤ → Answer (Option (List ℕ))
 layerName s layer = unless (layerNamesOk s) 14 (given (nameOfLayer s layer))

@@ -1,15 +1,14 @@
 -- The name lookup: the conducting map is asked first, then the via map.
-use Prim.Native.Nat.{ℕ, _+_, _-_, _≤_}
-use mathlib.Core.Path.{_≡_}
+use Prim.Native.Nat.{ℕ, _+_, _≤_}
 use mathlib.Core.Bool.{Bool, true, false}
 use mathlib.Core.List.{List, []}
-use mathlib.Core.Option.{Option, some, none}
+use mathlib.Core.Option.{Option, some, none, Option·map, orElse}
 use lib.ListN.{length}
 use Rattle.lists.specs.Answer.{Answer, refused, given, unless}
 use Rattle.lists.specs.Lists.{part}
 use Rattle.openrdson_core.specs.Refusals.{refusalNumber}
 use Rattle.openrdson_core.specs.Bytes.{unpad}
-use Rattle.openrdson_core.specs.Blocks.{mapOk, mapOption, entryOf}
+use Rattle.openrdson_core.specs.Blocks.{mapOk, entryOf}
 use Rattle.openrdson_core.specs.declared.blocks.Cell.the-variants.{Name}
 use Rattle.openrdson_core.specs.declared.maps.Span.{Span}
 use Rattle.openrdson_core.specs.declared.maps.Span.the-variants as span
@@ -20,19 +19,17 @@ use Rattle.openrdson_core.specs.declared.maps.Lookup.the-variants as fou
 
 -- the physical name that one map has for a logical one, without its padding
 abbrev pub inMap : List ℕ → List ℕ → Option (List ℕ)
-inMap s name = mapOption unpad (entryOf Name s name)
-
-abbrev pub orElse : {A : Type 0} → Option A → Option A → Option A
-orElse (some a) other = some a
-orElse none other = other
+inMap s name = Option·map unpad (entryOf Name s name)
 
 -- 14 in conducting, then via; else the physical name, if a map has one
 unfoldable pub lookup : List ℕ → List ℕ → List ℕ → Answer (Option (List ℕ))
+unfolding orElse
 lookup conducting via name =
     unless (mapOk conducting) 14
     (unless (mapOk via) 14
     (given (orElse (inMap conducting name) (inMap via name))))
 
+-- whether there is one, as a program says it (the library's IsSome is a proposition)
 abbrev pub isSome : {A : Type 0} → Option A → Bool
 isSome none = false
 isSome (some a) = true

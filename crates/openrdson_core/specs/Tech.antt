@@ -1,16 +1,16 @@
 -- The stack: conductors, diffusions and vias by name, material numbers, and what the blocks must be.
 use Prim.Native.Nat.{ℕ, _+_}
-use mathlib.Core.Bool.{Bool, true, false, not, _&&_, _||_, cond}
+use mathlib.Core.Bool.{Bool, not, _&&_, _||_, cond}
 use mathlib.Core.List.{List}
-use mathlib.Core.Option.{Option, some, none}
+use mathlib.Core.Option.{Option, some, none, Option·map}
 use lib.Ieee.{Float, binary64, ofBits}
-use Rattle.lists.specs.Answer.{Answer, refused, given, unless, mapAnswer}
+use Rattle.lists.specs.Answer.{Answer, refused, given, unless}
 use Rattle.lists.specs.Lists.{part, allBelow}
 use Rattle.binary64.specs.Numbers.{atMost}
 use Rattle.openrdson_core.specs.Refusals.{refusalNumber}
 use Rattle.openrdson_core.specs.Bytes.{zeros, unpad, little}
-use Rattle.openrdson_core.specs.Blocks.{hasHeight, hasThickness, count, valueAt, layerNamesOk, mapOk, stackOk, viasOk, rowOf, mapOption, entryOf}
-use Rattle.openrdson_core.specs.Maps.{spanned, spanWithin, orElse}
+use Rattle.openrdson_core.specs.Blocks.{hasHeight, hasThickness, count, valueAt, layerNamesOk, mapOk, stackOk, viasOk, rowOf, entryOf}
+use Rattle.openrdson_core.specs.Maps.{spanned, spanWithin}
 use Rattle.openrdson_core.specs.declared.blocks.Cell.the-variants.{Name, Figures, Ends}
 use Rattle.openrdson_core.specs.declared.tech.Figure.{Figure}
 use Rattle.openrdson_core.specs.declared.tech.Figure.the-variants as figure
@@ -48,7 +48,7 @@ unfoldable pub stackLayer : List ℕ → List ℕ → Answer (Option StackFigure
 stackLayer s name =
     unless (stackOk s) 14
     (unless (stackIn s) 1
-    (given (mapOption figuresOf (entryOf Figures s name))))
+    (given (Option·map figuresOf (entryOf Figures s name))))
 
 -- ---- a via's layers
 
@@ -65,7 +65,7 @@ viaNamesOf c = record { bottom = endName (part 0 32 c); top = endName (part 32 3
 
 -- the via of a name, the first of equal names: 14
 unfoldable pub viaLayers : List ℕ → List ℕ → Answer (Option ViaNames)
-viaLayers s name = unless (viasOk s) 14 (given (mapOption viaNamesOf (entryOf Ends s name)))
+viaLayers s name = unless (viasOk s) 14 (given (Option·map viaNamesOf (entryOf Ends s name)))
 
 -- ---- materials: conductors, diffusions, then vias; a name's number is its first place plus 1, and 0 where it has none
 

@@ -23,7 +23,7 @@ pub enum NamePart {
     Refused(Refusal),
 }
 
-// A layer-name block.
+// Whether s is a layer-name block.
 pub fn is_layer_names(s: &[u8]) -> bool
     ensures { λ r. ⌜ r ≡ layerNamesOk (now (s .entry)) ⌝ }
 {

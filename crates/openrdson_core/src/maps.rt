@@ -35,6 +35,7 @@ pub enum Lookup {
     Refused(Refusal),
 }
 
+// Whether s is a layer map.
 pub fn is_map(s: &[u8]) -> bool
     ensures { λ r. ⌜ r ≡ mapOk (now (s .entry)) ⌝ }
 {

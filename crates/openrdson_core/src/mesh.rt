@@ -171,21 +171,36 @@ fn first_below(places: &[u32], n: usize, nodes: usize) -> bool
     true
 }
 
+// How many of its places an element of a kind uses, and 0 where there is no such kind.
+fn used_places(kind: u8) -> usize
+    ensures { λ r. ⌜ (r ≡ spec.usedPlaces (spec.kindOf kind)) × (r ≤ 8) ⌝ }
+{
+    let found = element_type(kind);
+    match found {
+        Kind::Is(kind) => kind.node_count(),
+        Kind::Unknown => 0,
+    }
+}
+
+// The eight places of element e.
+fn places_of(places: &[u32], e: usize) -> &[u32]
+    requires { ⌜ 8 * e + 8 ≤ length (now places) ⌝ }
+    ensures { λ r. ⌜ now r ≡ part (8 * e) 8 (now (places .entry)) ⌝ }
+{
+    let first = 8 * e;
+    &places[first..first + 8]
+}
+
 // Whether element e has one of the four kinds, and the places past that kind's node count are unused (15). It is `pub` for the crate above, which has found the element within the lists.
 pub fn element_sound(kinds: &[u8], places: &[u32], e: usize) -> bool
     requires { ⌜ (e < length (now kinds)) × (8 * e + 8 ≤ length (now places)) ⌝ }
     ensures { λ r. ⌜ r ≡ spec.soundElement (getD (now (kinds .entry)) e 0) (part (8 * e) 8 (now (places .entry))) ⌝ }
 {
-    let found = element_type(kinds[e]);
-    match found {
-        Kind::Unknown => false,
-        Kind::Is(kind) => {
-            let n = kind.node_count();
-            let first = 8 * e;
-            let own = &places[first..first + 8];
-            rest_unused(own, n)
-        }
+    let n = used_places(kinds[e]);
+    if n == 0 {
+        return false;
     }
+    rest_unused(places_of(places, e), n)
 }
 
 // Whether the places that element e uses are below the number of nodes (13). It is `pub` for the crate above, as `element_sound` is.
@@ -193,16 +208,8 @@ pub fn element_inside(kinds: &[u8], places: &[u32], e: usize, nodes: usize) -> b
     requires { ⌜ (e < length (now kinds)) × (8 * e + 8 ≤ length (now places)) ⌝ }
     ensures { λ r. ⌜ r ≡ spec.insideElement nodes (getD (now (kinds .entry)) e 0) (part (8 * e) 8 (now (places .entry))) ⌝ }
 {
-    let found = element_type(kinds[e]);
-    match found {
-        Kind::Unknown => true,
-        Kind::Is(kind) => {
-            let n = kind.node_count();
-            let first = 8 * e;
-            let own = &places[first..first + 8];
-            first_below(own, n, nodes)
-        }
-    }
+    let n = used_places(kinds[e]);
+    first_below(places_of(places, e), n, nodes)
 }
 
 // Whether element e is valid in a mesh of so many nodes. It is `pub` for the crate above, as `element_sound` is.

@@ -3,7 +3,7 @@ ghost use mathlib.Core.Path.{_≡_};
 ghost use Rattle.lists.specs.Answer.{andThen, unless, given};
 ghost use Rattle.binary64.specs.Numbers.{_⊖_, _⊗_, abs};
 ghost use Rattle.openrdson_core.specs.Area.{area};
-ghost use Rattle.openrdson_core.specs.Bounds.{boundsOf};
+ghost use Rattle.openrdson_core.specs.Bounds.{theBbox, boundsOf};
 ghost use Rattle.openrdson_core.specs.Solids as spec;
 ghost use Rattle.openrdson_core.specs.Answers.{checkAnswer, measuredAnswer, boundedAnswer};
 use crate::area::polygon_area;
@@ -103,19 +103,16 @@ impl Solid {
                 max_y,
                 z_bottom,
                 z_top,
-            } => {
-                let sides = Bbox {
-                    min_x,
-                    min_y,
-                    max_x,
-                    max_y,
-                };
-                let checked = box_check(sides, z_bottom, z_top, xs.len(), ys.len());
-                match checked {
-                    Check::Refused(why) => Bounded::Refused(why),
-                    Check::Fine => Bounded::Value(sides),
-                }
-            }
+            } => box_bounds(
+                min_x,
+                min_y,
+                max_x,
+                max_y,
+                z_bottom,
+                z_top,
+                xs.len(),
+                ys.len(),
+            ),
             Solid::Prism {
                 z_bottom,
                 z_top,
@@ -138,19 +135,17 @@ impl Solid {
                 z_bottom,
                 z_top,
             } => {
-                let sides = Bbox {
+                let bounds = box_bounds(
                     min_x,
                     min_y,
                     max_x,
                     max_y,
-                };
-                let checked = box_check(sides, z_bottom, z_top, xs.len(), ys.len());
-                match checked {
-                    Check::Refused(why) => Measured::Refused(why),
-                    Check::Fine => Measured::Value(binary64::abs(
-                        (max_x - min_x) * (max_y - min_y) * (z_top - z_bottom),
-                    )),
-                }
+                    z_bottom,
+                    z_top,
+                    xs.len(),
+                    ys.len(),
+                );
+                box_volume(bounds, z_bottom, z_top)
             }
             Solid::Prism {
                 z_bottom,
@@ -194,20 +189,47 @@ fn heights_in_range(z_bottom: f64, z_top: f64) -> bool
     binary64::coordinate_in_range(z_bottom) & binary64::coordinate_in_range(z_top)
 }
 
-// Whether anything is against a box, beside point lists of m and n entries.
-fn box_check(sides: Bbox, z_bottom: f64, z_top: f64, m: usize, n: usize) -> Check
-    ensures { λ r. ⌜ checkAnswer r ≡ spec.boxFault m n sides «z_bottom» «z_top» ⌝ }
+// The bounds of a box, where nothing is against it beside point lists of m and n entries.
+fn box_bounds(
+    min_x: f64,
+    min_y: f64,
+    max_x: f64,
+    max_y: f64,
+    z_bottom: f64,
+    z_top: f64,
+    m: usize,
+    n: usize,
+) -> Bounded
+    ensures { λ r. ⌜ boundedAnswer r ≡ andThen (spec.boxFault m n (theBbox «min_x» «min_y» «max_x» «max_y») «z_bottom» «z_top») (λ _. given (theBbox «min_x» «min_y» «max_x» «max_y»)) ⌝ }
 {
     let checked = points_check(m, n, 0, 0);
     match checked {
-        Check::Refused(why) => Check::Refused(why),
+        Check::Refused(why) => Bounded::Refused(why),
         Check::Fine => {
-            let low = Point::new(sides.min_x, sides.min_y);
-            let high = Point::new(sides.max_x, sides.max_y);
+            let low = Point::new(min_x, min_y);
+            let high = Point::new(max_x, max_y);
             if !(low.is_in_range() & high.is_in_range() & heights_in_range(z_bottom, z_top)) {
-                return Check::Refused(Refusal::NumberOutOfRange);
+                return Bounded::Refused(Refusal::NumberOutOfRange);
             }
-            Check::Fine
+            Bounded::Value(Bbox {
+                min_x,
+                min_y,
+                max_x,
+                max_y,
+            })
+        }
+    }
+}
+
+// A box's volume is that of its bounds times its height.
+fn box_volume(bounds: Bounded, z_bottom: f64, z_top: f64) -> Measured
+    ensures { λ r. ⌜ measuredAnswer r ≡ andThen (boundedAnswer bounds) (λ b. given (abs ((b .«max_x» ⊖ b .«min_x») ⊗ (b .«max_y» ⊖ b .«min_y») ⊗ («z_top» ⊖ «z_bottom»)))) ⌝ }
+{
+    match bounds {
+        Bounded::Refused(why) => Measured::Refused(why),
+        Bounded::Value(b) => {
+            let volume = (b.max_x - b.min_x) * (b.max_y - b.min_y) * (z_top - z_bottom);
+            Measured::Value(binary64::abs(volume))
         }
     }
 }

@@ -3,11 +3,11 @@ ghost use mathlib.Core.Path.{_≡_};
 ghost use mathlib.Core.Bool.{true, not, _||_};
 ghost use Prim.Native.Nat.{_+_, _*_, _≤_};
 ghost use lib.ListN.{length};
-ghost use mathlib.Core.Option.{some};
+ghost use mathlib.Core.Option.{some, Option·map};
 ghost use Rattle.lists.specs.Answer.{given};
 ghost use Rattle.lists.specs.Lists.{part, allBelow};
 ghost use Rattle.binary64.specs.Numbers.{atMost};
-ghost use Rattle.openrdson_core.specs.Blocks.{stackOk, viasOk, mapOption, entryOf};
+ghost use Rattle.openrdson_core.specs.Blocks.{stackOk, viasOk, entryOf};
 ghost use Rattle.openrdson_core.specs.Maps.{spanned, spanWithin};
 ghost use Rattle.openrdson_core.specs.Tech as spec;
 ghost use Rattle.openrdson_core.specs.Answers.{checkAnswer, numberedAnswer};
@@ -52,13 +52,14 @@ pub enum Numbered {
     Refused(Refusal),
 }
 
-// A conductors or a diffusions block, and a vias block.
+// Whether s is a conductors or a diffusions block.
 pub fn is_stack(s: &[u8]) -> bool
     ensures { λ r. ⌜ r ≡ stackOk (now (s .entry)) ⌝ }
 {
     is_block(s, Cell::Name, Cell::Figures, false)
 }
 
+// Whether s is a vias block.
 pub fn is_vias(s: &[u8]) -> bool
     ensures { λ r. ⌜ r ≡ viasOk (now (s .entry)) ⌝ }
 {
@@ -104,7 +105,7 @@ fn are_figures_in(c: &[u8]) -> bool
     is_figure_in(2 <= flag, &c[9..17])
 }
 
-// Whether the present figures of a sound block are finite and at most 2^19 in size.
+// Whether the present figures of a block are finite and at most 2^19 in size. It is `pub` for the crate above, and requires a block that has been checked.
 pub fn is_stack_in(s: &[u8]) -> bool
     requires { ⌜ stackOk (now s) ≡ true ⌝ }
     ensures { λ r. ⌜ r ≡ spec.stackIn (now (s .entry)) ⌝ }
@@ -136,7 +137,7 @@ fn entry_at(c: &[u8]) -> StackLayer
 // The conductor or the diffusion of a name. For a block that has been checked.
 pub fn find_stack_layer(s: &[u8], name: &[u8]) -> StackLayer
     requires { ⌜ stackOk (now s) ≡ true ⌝ }
-    ensures { λ r. ⌜ spec.stackLayerAnswer r ≡ given (mapOption spec.figuresOf (entryOf Cell.Figures (now (s .entry)) (now (name .entry)))) ⌝ }
+    ensures { λ r. ⌜ spec.stackLayerAnswer r ≡ given (Option·map spec.figuresOf (entryOf Cell.Figures (now (s .entry)) (now (name .entry)))) ⌝ }
 {
     let n = rows(s);
     let found = find_row(s, name);
@@ -177,7 +178,7 @@ fn end_at(s: &[u8], at: usize) -> Span
 // The layers of the via of a name. For a block that has been checked.
 pub fn find_via(s: &[u8], name: &[u8]) -> ViaLayers
     requires { ⌜ viasOk (now s) ≡ true ⌝ }
-    ensures { λ r. ⌜ (spec.viaLayersAnswer (now (s .entry)) r ≡ given (mapOption spec.viaNamesOf (entryOf Cell.Ends (now (s .entry)) (now (name .entry))))) × spec.viaLayersWithin (now (s .entry)) r ⌝ }
+    ensures { λ r. ⌜ (spec.viaLayersAnswer (now (s .entry)) r ≡ given (Option·map spec.viaNamesOf (entryOf Cell.Ends (now (s .entry)) (now (name .entry))))) × spec.viaLayersWithin (now (s .entry)) r ⌝ }
 {
     let n = rows(s);
     let found = find_row(s, name);

@@ -1,15 +1,9 @@
-// The counts and the lines of a report.
+// The lines of a report.
 ghost use Prim.Native.Nat.{_<_};
 ghost use lib.ListN.{length};
 
-// One more at a place.
-pub fn count(list: &mut [u64], i: usize) {
-    if i < list.len() {
-        list[i] = std::num::wrapping_add_u64(list[i], 1);
-    }
-}
-
-pub fn total(list: &[u64]) -> u64 {
+// The sum of the counts.
+fn total(list: &[u64]) -> u64 {
     let mut sum = 0u64;
     let mut i = 0;
     while i < list.len() {
@@ -19,7 +13,8 @@ pub fn total(list: &[u64]) -> u64 {
     sum
 }
 
-pub fn print_counts(cases: u64, mismatches: u64) {
+// How many cases and mismatches there are, on a line.
+fn print_counts(cases: u64, mismatches: u64) {
     io::print_decimal(1, cases);
     io::write_all(1, b" cases ");
     io::print_decimal(1, mismatches);
@@ -33,4 +28,14 @@ pub fn print_call(name: &[u8], cases: &[u64], mismatches: &[u64], i: usize)
     io::write_all(1, name);
     io::write_all(1, b" ");
     print_counts(cases[i], mismatches[i]);
+}
+
+// The lines of the damaged records, whose counts stand at place 0, where there are any, and of all.
+pub fn print_all(cases: &[u64], mismatches: &[u64])
+    requires { ⌜ (0 < length (now cases)) × (0 < length (now mismatches)) ⌝ }
+{
+    if cases[0] > 0 {
+        print_call(b"damaged", cases, mismatches, 0);
+    }
+    print_counts(total(cases), total(mismatches));
 }

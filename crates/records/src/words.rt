@@ -20,22 +20,6 @@ pub fn word(bytes: &[u8], i: usize) -> u64 {
     first | (second << 16) | (third << 32) | (fourth << 48)
 }
 
-// The float of a bit pattern. `from_bits` asks that it is no NaN's: every NaN is that of 0 / 0.
-pub fn float(n: u64) -> f64 {
-    let e = n % 0x8000_0000_0000_0000 / 0x10_0000_0000_0000;
-    if e != 2047 {
-        return f64::from_bits(n);
-    }
-    let zero = 0.0;
-    if n % 0x10_0000_0000_0000 != 0 {
-        return zero / zero;
-    }
-    if n == 0x7ff0_0000_0000_0000 {
-        return 1.0 / zero;
-    }
-    -1.0 / zero
-}
-
 // The bit pattern of a float, the same for every NaN.
 pub fn bits(x: f64) -> u64 {
     if x != x {
@@ -79,9 +63,20 @@ pub fn narrow(n: u64) -> u32 {
     n as u32
 }
 
+// A list's length at place i, or 1,024 where it is longer.
+pub fn length_at(bytes: &[u8], i: usize) -> usize
+    ensures { λ r. ⌜ r ≤ 1024 ⌝ }
+{
+    let n = word(bytes, i);
+    if n > 1024 {
+        return 1024;
+    }
+    n as usize
+}
+
 // The float at place i.
 pub fn float_at(bytes: &[u8], i: usize) -> f64 {
-    float(word(bytes, i))
+    binary64::from_bits(word(bytes, i))
 }
 
 // The n floats from place `from` on, and zeros.

@@ -1,90 +1,37 @@
 // A call's answer in the words of the file.
-ghost use Prim.Native.Nat.{_≤_};
 use openrdson_core::Bounded;
 use openrdson_core::Judged;
 use openrdson_core::Measured;
+use records::Answer;
 use records::bits;
-use records::word;
 
-// 0 or the refusal's number, and four values, 0 where unused.
-pub struct Answer {
-    status: u64,
-    a: u64,
-    b: u64,
-    c: u64,
-    d: u64,
+pub fn float(x: f64) -> Answer {
+    Answer::whole(bits(x))
 }
 
-impl Answer {
-    // The answer of the five words from place i on.
-    pub fn recorded(bytes: &[u8], i: usize) -> Self
-        requires { ⌜ i ≤ 4096 ⌝ }
-    {
-        Self {
-            status: word(bytes, i),
-            a: word(bytes, i + 1),
-            b: word(bytes, i + 2),
-            c: word(bytes, i + 3),
-            d: word(bytes, i + 4),
-        }
+pub fn measured(given: Measured) -> Answer {
+    match given {
+        Measured::Refused(why) => Answer::refused(why.number() as u64),
+        Measured::Value(x) => float(x),
     }
+}
 
-    pub fn refused(status: u64) -> Self {
-        Self {
-            status,
-            a: 0,
-            b: 0,
-            c: 0,
-            d: 0,
-        }
+pub fn judged(given: Judged) -> Answer {
+    match given {
+        Judged::Refused(why) => Answer::refused(why.number() as u64),
+        Judged::Value(yes) => Answer::whole(yes as u64),
     }
+}
 
-    pub fn whole(a: u64) -> Self {
-        Self {
-            status: 0,
-            a,
-            b: 0,
-            c: 0,
-            d: 0,
-        }
-    }
-
-    pub fn float(x: f64) -> Self {
-        Self::whole(bits(x))
-    }
-
-    pub fn measured(given: Measured) -> Self {
-        match given {
-            Measured::Refused(why) => Self::refused(why.number() as u64),
-            Measured::Value(x) => Self::float(x),
-        }
-    }
-
-    pub fn judged(given: Judged) -> Self {
-        match given {
-            Judged::Refused(why) => Self::refused(why.number() as u64),
-            Judged::Value(yes) => Self::whole(yes as u64),
-        }
-    }
-
-    pub fn bounded(given: Bounded) -> Self {
-        match given {
-            Bounded::Refused(why) => Self::refused(why.number() as u64),
-            Bounded::Value(b) => Self {
-                status: 0,
-                a: bits(b.min_x),
-                b: bits(b.min_y),
-                c: bits(b.max_x),
-                d: bits(b.max_y),
-            },
-        }
-    }
-
-    pub fn is(self, other: Answer) -> bool {
-        (self.status == other.status)
-            & (self.a == other.a)
-            & (self.b == other.b)
-            & (self.c == other.c)
-            & (self.d == other.d)
+pub fn bounded(given: Bounded) -> Answer {
+    match given {
+        Bounded::Refused(why) => Answer::refused(why.number() as u64),
+        Bounded::Value(b) => Answer::given(
+            bits(b.min_x),
+            bits(b.min_y),
+            bits(b.max_x),
+            bits(b.max_y),
+            0,
+        ),
     }
 }

@@ -1,7 +1,6 @@
 // The report: a line for each call, and one for all.
+use records::print_all;
 use records::print_call;
-use records::print_counts;
-use records::total;
 
 fn print_ring_calls(cases: &[u64; 14], mismatches: &[u64; 14]) {
     print_call(b"polygon_signed_area", cases, mismatches, 1);
@@ -25,13 +24,9 @@ fn print_number_calls(cases: &[u64; 14], mismatches: &[u64; 14]) {
     print_call(b"nearest_capped", cases, mismatches, 13);
 }
 
-// Place 0 is for a damaged record.
 pub fn print_report(cases: &[u64; 14], mismatches: &[u64; 14]) {
     print_ring_calls(cases, mismatches);
     print_solid_calls(cases, mismatches);
     print_number_calls(cases, mismatches);
-    if cases[0] > 0 {
-        print_call(b"damaged", cases, mismatches, 0);
-    }
-    print_counts(total(cases), total(mismatches));
+    print_all(cases, mismatches);
 }

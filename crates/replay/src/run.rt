@@ -2,10 +2,13 @@
 ghost use mathlib.Core.Path.{_≡_};
 ghost use Prim.Native.Nat.{_≤_};
 ghost use lib.ListN.{length};
-use crate::answers::Answer;
 use crate::calls::answer;
-use records::count;
+use records::count_case;
+use records::first_bytes;
 use records::floats_at;
+use records::length_at;
+use records::place_of;
+use records::read_on;
 use records::word;
 
 // Whether the call's number is one, and a prism's start and count are below 2^32.
@@ -23,22 +26,11 @@ fn is_of_call(record: &[u8]) -> bool {
     true
 }
 
-// A list's length, or 1,024 where it is longer.
-fn list_length(record: &[u8], i: usize) -> usize
-    ensures { λ r. ⌜ r ≤ 1024 ⌝ }
-{
-    let n = word(record, i);
-    if n > 1024 {
-        return 1024;
-    }
-    n as usize
-}
-
 // The bytes of a record with these lists.
 fn size_of(record: &[u8]) -> usize
     ensures { λ r. ⌜ (128 ≤ r) × (r ≤ 16512) ⌝ }
 {
-    (list_length(record, 1) + list_length(record, 2) + 16) * 8
+    (length_at(record, 1) + length_at(record, 2) + 16) * 8
 }
 
 // Whether nothing is wrong with the record: its call, its lists' lengths and its size.
@@ -54,36 +46,27 @@ fn is_whole(record: &[u8]) -> bool {
 
 // Whether the call answers what the record says.
 fn is_answered(record: &[u8]) -> bool {
-    let m = list_length(record, 1);
-    let n = list_length(record, 2);
+    let m = length_at(record, 1);
+    let n = length_at(record, 2);
     let xs = floats_at(record, 11, m);
     let ys = floats_at(record, 11 + m, n);
-    let given = answer(record, &xs[..m], &ys[..n]);
-    given.is(Answer::recorded(record, 11 + m + n))
-}
-
-// The call's number, or 0.
-fn call_of(record: &[u8]) -> usize {
-    let call = word(record, 0);
-    if call > 13 {
-        return 0;
-    }
-    call as usize
+    let given = answer(record, &xs[0..m], &ys[0..n]);
+    given.is_recorded(record, 11 + m + n)
 }
 
 // Replays a record: one more case of its call, and one more mismatch where the call answers otherwise.
-// Gives false where it is damaged.
+// Gives false where it is damaged, and counts that at place 0.
 fn replay_record(record: &[u8], cases: &mut [u64], mismatches: &mut [u64]) -> bool {
     if !is_whole(record) {
-        count(cases, 0);
-        count(mismatches, 0);
+        count_case(cases, mismatches, 0, false);
         return false;
     }
-    let call = call_of(record);
-    count(cases, call);
-    if !is_answered(record) {
-        count(mismatches, call);
-    }
+    count_case(
+        cases,
+        mismatches,
+        place_of(record, 0, 13),
+        is_answered(record),
+    );
     true
 }
 
@@ -92,23 +75,22 @@ fn read_record(buffer: &mut [u8]) -> usize
     requires { ⌜ length (now buffer) ≡ 16512 ⌝ }
     ensures { λ r. ⌜ r ≤ 16512 ⌝ }
 {
-    let n = io::read_full(0, &mut buffer[..24]);
+    let n = read_on(buffer, 0, 24);
     if n < 24 {
         return n;
     }
     let size = size_of(buffer);
-    let more = io::read_full(0, &mut buffer[24..size]);
-    24 + more
+    read_on(buffer, n, size)
 }
 
 // Replays the next record of the input. Gives false where there is none or it is damaged.
 fn replay_next(cases: &mut [u64], mismatches: &mut [u64]) -> bool {
-    let mut record = [0u8; 16512];
-    let n = read_record(&mut record);
+    let mut buffer = [0u8; 16512];
+    let n = read_record(&mut buffer);
     if n == 0 {
         return false;
     }
-    replay_record(&record[..n], cases, mismatches)
+    replay_record(first_bytes(&buffer, n), cases, mismatches)
 }
 
 // Replays the records of the input: how many of each call there are, and how many of them it answers otherwise.

@@ -1,6 +1,13 @@
 // The calls, on what a record gives them.
-use crate::answers::Answer;
+use crate::answers::checked;
+use crate::answers::layer_named;
+use crate::answers::looked_up;
+use crate::answers::named;
+use crate::answers::numbered;
+use crate::answers::of_stack;
+use crate::answers::of_via;
 use crate::slices::slice;
+use records::Answer;
 use records::short;
 use records::word;
 
@@ -26,35 +33,35 @@ fn check_blocks(record: &[u8]) -> Answer {
     let diffusions = slice(record, 5);
     let vias = slice(record, 6);
     let given = openrdson_core::check_blocks(names, conducting, via, conductors, diffusions, vias);
-    Answer::checked(given)
+    checked(given)
 }
 
 fn look_up(record: &[u8]) -> Answer {
     let conducting = slice(record, 1);
     let via = slice(record, 2);
-    Answer::looked_up(openrdson_core::look_up(conducting, via, slice(record, 3)))
+    looked_up(openrdson_core::look_up(conducting, via, slice(record, 3)))
 }
 
 fn name_place(record: &[u8]) -> Answer {
     let conducting = slice(record, 1);
     let via = slice(record, 2);
     let place = openrdson_core::name_place(conducting, via, slice(record, 3));
-    Answer::named(place, conducting.len(), via.len())
+    named(place, conducting.len(), via.len())
 }
 
 fn layer_name(record: &[u8]) -> Answer {
     let names = slice(record, 1);
     let given = openrdson_core::layer_name(names, short(word(record, 8)));
-    Answer::layer_named(given, names.len())
+    layer_named(given, names.len())
 }
 
 fn stack_layer(record: &[u8]) -> Answer {
-    Answer::of_stack(openrdson_core::stack_layer(slice(record, 1), slice(record, 2)))
+    of_stack(openrdson_core::stack_layer(slice(record, 1), slice(record, 2)))
 }
 
 fn via_layers(record: &[u8]) -> Answer {
     let vias = slice(record, 1);
-    Answer::of_via(
+    of_via(
         openrdson_core::via_layers(vias, slice(record, 2)),
         vias.len(),
     )
@@ -65,7 +72,7 @@ fn material_number(record: &[u8]) -> Answer {
     let diffusions = slice(record, 2);
     let vias = slice(record, 3);
     let given = openrdson_core::material_number(conductors, diffusions, vias, slice(record, 4));
-    Answer::numbered(given)
+    numbered(given)
 }
 
 fn is_marker(record: &[u8]) -> Answer {

@@ -1,7 +1,6 @@
 // The report: a line for each call, and one for all.
+use records::print_all;
 use records::print_call;
-use records::print_counts;
-use records::total;
 
 fn print_map_calls(cases: &[u64; 9], mismatches: &[u64; 9]) {
     print_call(b"check_blocks", cases, mismatches, 1);
@@ -17,12 +16,8 @@ fn print_stack_calls(cases: &[u64; 9], mismatches: &[u64; 9]) {
     print_call(b"is_marker", cases, mismatches, 8);
 }
 
-// Place 0 is for a damaged record.
 pub fn print_report(cases: &[u64; 9], mismatches: &[u64; 9]) {
     print_map_calls(cases, mismatches);
     print_stack_calls(cases, mismatches);
-    if cases[0] > 0 {
-        print_call(b"damaged", cases, mismatches, 0);
-    }
-    print_counts(total(cases), total(mismatches));
+    print_all(cases, mismatches);
 }

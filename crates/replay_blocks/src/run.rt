@@ -7,8 +7,11 @@ use crate::calls::slices_of;
 use crate::slices::answer_place;
 use crate::slices::are_lengths_in;
 use crate::slices::size_of;
-use records::count;
+use records::count_case;
+use records::first_bytes;
 use records::is_short;
+use records::place_of;
+use records::read_on;
 use records::word;
 
 // Whether the layer's number is an i16 for call 17, and 0 for the others.
@@ -41,31 +44,19 @@ fn is_answered(record: &[u8]) -> bool {
     answer(call, record).is_recorded(record, answer_place(record))
 }
 
-// The place of the call's counts, or 0.
-fn place_of(record: &[u8]) -> usize {
-    let call = word(record, 0);
-    if call < 14 {
-        return 0;
-    }
-    if call > 21 {
-        return 0;
-    }
-    (call - 13) as usize
-}
-
 // Replays a record: one more case of its call, and one more mismatch where the call answers otherwise.
-// Gives false where it is damaged.
+// Gives false where it is damaged, and counts that at place 0.
 fn replay_record(record: &[u8], cases: &mut [u64], mismatches: &mut [u64]) -> bool {
     if !is_whole(record) {
-        count(cases, 0);
-        count(mismatches, 0);
+        count_case(cases, mismatches, 0, false);
         return false;
     }
-    let place = place_of(record);
-    count(cases, place);
-    if !is_answered(record) {
-        count(mismatches, place);
-    }
+    count_case(
+        cases,
+        mismatches,
+        place_of(record, 13, 21),
+        is_answered(record),
+    );
     true
 }
 
@@ -74,23 +65,22 @@ fn read_record(buffer: &mut [u8]) -> usize
     requires { ⌜ length (now buffer) ≡ 8256 ⌝ }
     ensures { λ r. ⌜ r ≤ 8256 ⌝ }
 {
-    let n = io::read_full(0, &mut buffer[..72]);
+    let n = read_on(buffer, 0, 72);
     if n < 72 {
         return n;
     }
     let size = size_of(buffer);
-    let more = io::read_full(0, &mut buffer[72..size]);
-    72 + more
+    read_on(buffer, n, size)
 }
 
 // Replays the next record of the input. Gives false where there is none or it is damaged.
 fn replay_next(cases: &mut [u64], mismatches: &mut [u64]) -> bool {
-    let mut record = [0u8; 8256];
-    let n = read_record(&mut record);
+    let mut buffer = [0u8; 8256];
+    let n = read_record(&mut buffer);
     if n == 0 {
         return false;
     }
-    replay_record(&record[..n], cases, mismatches)
+    replay_record(first_bytes(&buffer, n), cases, mismatches)
 }
 
 // Replays the records of the input: how many of each call there are, and how many of them it answers otherwise.

@@ -1,17 +1,7 @@
 // The byte slices of a record: their lengths stand in words 1 to 7, their bytes from byte 72 on.
 ghost use Prim.Native.Nat.{_≤_, _+_, _*_};
+use records::length_at;
 use records::word;
-
-// A slice's length, or 1,024 where it is longer.
-fn length_of(record: &[u8], i: usize) -> usize
-    ensures { λ r. ⌜ r ≤ 1024 ⌝ }
-{
-    let n = word(record, i);
-    if n > 1024 {
-        return 1024;
-    }
-    n as usize
-}
 
 // Where slice i starts. Slice 8 is past the last.
 fn start_of(record: &[u8], i: usize) -> usize
@@ -21,7 +11,7 @@ fn start_of(record: &[u8], i: usize) -> usize
     let mut at = 72;
     let mut k = 1;
     while k < i {
-        at += length_of(record, k);
+        at += length_at(record, k);
         k += 1;
     }
     at
@@ -32,7 +22,7 @@ pub fn slice(record: &[u8], i: usize) -> &[u8]
     requires { ⌜ i ≤ 8 ⌝ }
 {
     let start = start_of(record, i);
-    let end = start + length_of(record, i);
+    let end = start + length_at(record, i);
     if end > record.len() {
         return &record[0..0];
     }

@@ -4,19 +4,14 @@ use native.Mathlib.Omega.{arith}
 use borrow.Author.Needs.{needs}
 use mathlib.Core.Path.{_≡_, sym, ap, _∙_}
 use mathlib.Core.Bool.{true}
-use lib.ListN.{length}
 use borrow.Author.Tests.{not-true, not-false}
+use Rattle.lists.proofs.Parts.{run-lent, lent-length}
 use Rattle.lists.specs.Lists.{part, allBelow}
 use Rattle.lists.proofs.Scans.{all-start, all-more, all-fails}
 use Rattle.lists.proofs.Fills.{run-room, run-first, run-next}
 use Rattle.openrdson_core.specs.Blocks.{widthOf, cellOk}
-use Rattle.openrdson_core.proofs.BlockLaws.{cell-lent, lent-length}
 use Rattle.openrdson_core.proofs.blocks.all_cells.Statement.{statement}
 use Rattle.openrdson_core.proofs.blocks.all_cells.Tie as tie
-use Rattle.openrdson_core.proofs.blocks.all_cells.Reads as reads
-use Rattle.openrdson_core.proofs.blocks.all_cells.Lts as lts
-use Rattle.openrdson_core.proofs.blocks.is_cell.Reads as is-cell-reads
-use Rattle.openrdson_core.proofs.blocks.width.Reads as width-reads
 
 abbrev Inv-loop : tie.InvT-loop
 Inv-loop s from n cell w at₀ i₀ at i = (i ≤ n) × (at ≡ from + i * widthOf cell) × (allBelow i (λ k. cellOk cell (part (from + k * widthOf cell) (widthOf cell) s)) ≡ true)
@@ -46,7 +41,7 @@ is-cell-requires : tie.Need-is-cell-requires Inv-loop μ-loop
 is-cell-requires c κs = lent-length (c .before .before .before .before .before .args .s .now) (c .before .before .loop .at) (c .before .before .before .width .result) (omega (arith, run-room (c .before .before .before .before .before .args .n) (widthOf (c .before .before .before .before .before .args .cell)) (c .before .before .loop .i) (c .before .loop-test .taken), c .before .before .before .width .ensures .0, c .before .before .loop .inv .1)) ∙ c .before .before .before .width .ensures .0
 
 returns : tie.Need-returns Inv-loop μ-loop
-returns c = sym (all-fails (λ k. cellOk (c .before .before .before .before .before .before .before .args .cell) (part (c .before .before .before .before .before .before .before .args .from + k * widthOf (c .before .before .before .before .before .before .before .args .cell)) (widthOf (c .before .before .before .before .before .before .before .args .cell)) (c .before .before .before .before .before .before .before .args .s .now))) (c .before .before .before .before .before .before .before .args .n) (c .before .before .before .before .loop .i) (c .before .before .before .loop-test .taken) (ap (cellOk (c .before .before .before .before .before .before .before .args .cell)) (sym (cell-lent (c .before .before .before .before .before .before .before .args .s .now) (c .before .before .before .before .before .before .before .args .from) (c .before .before .before .before .loop .i) (widthOf (c .before .before .before .before .before .before .before .args .cell)) (c .before .before .before .before .loop .inv .1) (c .before .before .before .before .before .width .ensures .0))) ∙ sym (c .before .is-cell .ensures) ∙ not-true _ (c .if1 .taken)))
+returns c = sym (all-fails (λ k. cellOk (c .before .before .before .before .before .before .before .args .cell) (part (c .before .before .before .before .before .before .before .args .from + k * widthOf (c .before .before .before .before .before .before .before .args .cell)) (widthOf (c .before .before .before .before .before .before .before .args .cell)) (c .before .before .before .before .before .before .before .args .s .now))) (c .before .before .before .before .before .before .before .args .n) (c .before .before .before .before .loop .i) (c .before .before .before .loop-test .taken) (ap (cellOk (c .before .before .before .before .before .before .before .args .cell)) (sym (run-lent (c .before .before .before .before .before .before .before .args .s .now) (c .before .before .before .before .before .before .before .args .from) (c .before .before .before .before .loop .i) (widthOf (c .before .before .before .before .before .before .before .args .cell)) (c .before .before .before .before .loop .inv .1) (c .before .before .before .before .before .width .ensures .0))) ∙ sym (c .before .is-cell .ensures) ∙ not-true _ (c .if1 .taken)))
 
 add-at : tie.Need-add-at Inv-loop μ-loop
 add-at c = omega (arith, run-room (c .before .before .before .before .before .before .before .args .n) (widthOf (c .before .before .before .before .before .before .before .args .cell)) (c .before .before .before .before .loop .i) (c .before .before .before .loop-test .taken), c .before .before .before .before .before .width .ensures .0, c .before .before .before .before .loop .inv .1)
@@ -58,7 +53,7 @@ loop-less : tie.Need-loop-less Inv-loop μ-loop
 loop-less c = omega arith
 
 loop-again : tie.Need-loop-again Inv-loop μ-loop
-loop-again c = (omega arith, omega (arith, c .before .before .before .before .before .width .ensures .0, run-next (c .before .before .before .before .before .before .before .args .from) (widthOf (c .before .before .before .before .before .before .before .args .cell)) (c .before .before .before .before .loop .i) (c .before .before .before .before .loop .inv .1)), all-more (λ k. cellOk (c .before .before .before .before .before .before .before .args .cell) (part (c .before .before .before .before .before .before .before .args .from + k * widthOf (c .before .before .before .before .before .before .before .args .cell)) (widthOf (c .before .before .before .before .before .before .before .args .cell)) (c .before .before .before .before .before .before .before .args .s .now))) (c .before .before .before .before .loop .i) (c .before .before .before .before .loop .inv .2) (ap (cellOk (c .before .before .before .before .before .before .before .args .cell)) (sym (cell-lent (c .before .before .before .before .before .before .before .args .s .now) (c .before .before .before .before .before .before .before .args .from) (c .before .before .before .before .loop .i) (widthOf (c .before .before .before .before .before .before .before .args .cell)) (c .before .before .before .before .loop .inv .1) (c .before .before .before .before .before .width .ensures .0))) ∙ sym (c .before .is-cell .ensures) ∙ not-false _ (c .if1 .left)))
+loop-again c = (omega arith, omega (arith, c .before .before .before .before .before .width .ensures .0, run-next (c .before .before .before .before .before .before .before .args .from) (widthOf (c .before .before .before .before .before .before .before .args .cell)) (c .before .before .before .before .loop .i) (c .before .before .before .before .loop .inv .1)), all-more (λ k. cellOk (c .before .before .before .before .before .before .before .args .cell) (part (c .before .before .before .before .before .before .before .args .from + k * widthOf (c .before .before .before .before .before .before .before .args .cell)) (widthOf (c .before .before .before .before .before .before .before .args .cell)) (c .before .before .before .before .before .before .before .args .s .now))) (c .before .before .before .before .loop .i) (c .before .before .before .before .loop .inv .2) (ap (cellOk (c .before .before .before .before .before .before .before .args .cell)) (sym (run-lent (c .before .before .before .before .before .before .before .args .s .now) (c .before .before .before .before .before .before .before .args .from) (c .before .before .before .before .loop .i) (widthOf (c .before .before .before .before .before .before .before .args .cell)) (c .before .before .before .before .loop .inv .1) (c .before .before .before .before .before .width .ensures .0))) ∙ sym (c .before .is-cell .ensures) ∙ not-false _ (c .if1 .left)))
 
 returns-2 : tie.Need-returns-2 Inv-loop μ-loop
 returns-2 c = let e : c .before .loop .i ≡ c .before .before .before .before .args .n = omega arith in sym (sym (ap (λ (k : ℕ). allBelow k (λ k. cellOk (c .before .before .before .before .args .cell) (part (c .before .before .before .before .args .from + k * widthOf (c .before .before .before .before .args .cell)) (widthOf (c .before .before .before .before .args .cell)) (c .before .before .before .before .args .s .now)))) e) ∙ c .before .loop .inv .2)

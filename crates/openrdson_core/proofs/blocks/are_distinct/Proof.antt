@@ -1,7 +1,6 @@
 -- `are_distinct` meets its contract: a scan, cell by cell. Assumes nothing.
 use Prim.Native.Nat.{ℕ, _+_, _*_, _-_, _≤_}
 use native.Mathlib.Omega.{arith}
-use borrow.Author.Needs.{needs}
 use mathlib.Core.Path.{_≡_, sym, ap, _∙_}
 use mathlib.Core.Bool.{true, not}
 use borrow.Author.Tests.{not-true, not-false}
@@ -11,9 +10,6 @@ use Rattle.lists.proofs.Fills.{run-room}
 use Rattle.openrdson_core.specs.Bytes.{same}
 use Rattle.openrdson_core.proofs.blocks.are_distinct.Statement.{statement}
 use Rattle.openrdson_core.proofs.blocks.are_distinct.Tie as tie
-use Rattle.openrdson_core.proofs.blocks.are_distinct.Reads as reads
-use Rattle.openrdson_core.proofs.blocks.are_distinct.Lts as lts
-use Rattle.openrdson_core.proofs.blocks.is_new.Reads as is-new-reads
 
 abbrev Inv-loop : tie.InvT-loop
 Inv-loop s w n i₀ i = (i ≤ n) × (allBelow i (λ k. allBelow k (λ j. not (same (part (2 + j * w) w s) (part (2 + k * w) w s)))) ≡ true)

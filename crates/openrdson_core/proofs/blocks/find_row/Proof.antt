@@ -4,20 +4,14 @@ use native.Mathlib.Omega.{arith}
 use borrow.Author.Needs.{needs}
 use mathlib.Core.Path.{_≡_, refl, sym, ap, _∙_}
 use mathlib.Core.List.{List}
-use mathlib.Core.Option.{Option, some, none}
-use lib.ListN.{length}
+use Rattle.lists.proofs.Parts.{run-lent}
 use Rattle.lists.specs.Lists.{part, first}
 use Rattle.lists.proofs.Searches.{Searched, search-start, search-found, search-more, search-end}
-use Rattle.lists.proofs.Fills.{run-room, run-first, run-next}
+use Rattle.lists.proofs.Fills.{run-room}
 use Rattle.openrdson_core.specs.Bytes.{same, unpad}
 use Rattle.openrdson_core.specs.Blocks.{rowOf, count}
-use Rattle.openrdson_core.proofs.BlockLaws.{cell-lent}
 use Rattle.openrdson_core.proofs.blocks.find_row.Statement.{statement}
 use Rattle.openrdson_core.proofs.blocks.find_row.Tie as tie
-use Rattle.openrdson_core.proofs.blocks.find_row.Reads as reads
-use Rattle.openrdson_core.proofs.blocks.find_row.Lts as lts
-use Rattle.openrdson_core.proofs.blocks.is_named.Reads as is-named-reads
-use Rattle.openrdson_core.proofs.blocks.rows.Reads as rows-reads
 
 abbrev Inv-loop : tie.InvT-loop
 Inv-loop s name n at₀ i₀ at i = (i ≤ n) × (at ≡ 2 + i * 32) × Searched (λ k. same (unpad (part (2 + k * 32) 32 s)) name) n i
@@ -48,7 +42,7 @@ is-named-requires c κs = search needs
 
 returns : tie.Need-returns Inv-loop μ-loop
 unfolding rowOf
-returns c = sym (ap (λ (k : ℕ). first (λ k. same (unpad (part (2 + k * 32) 32 (c .before .before .before .before .before .before .before .before .args .s .now))) (c .before .before .before .before .before .before .before .before .args .name .now)) k 0) (sym (c .before .before .before .before .before .rows .ensures)) ∙ search-found (λ k. same (unpad (part (2 + k * 32) 32 (c .before .before .before .before .before .before .before .before .args .s .now))) (c .before .before .before .before .before .before .before .before .args .name .now)) (c .before .before .before .before .before .rows .result) (c .before .before .before .before .loop .i) (c .before .before .before .before .loop .inv .2) (c .before .before .before .loop-test .taken) (ap (λ (l : List ℕ). same (unpad l) (c .before .before .before .before .before .before .before .before .args .name .now)) (sym (cell-lent (c .before .before .before .before .before .before .before .before .args .s .now) 2 (c .before .before .before .before .loop .i) 32 (c .before .before .before .before .loop .inv .1) refl)) ∙ sym (c .before .is-named .ensures) ∙ c .if1 .taken))
+returns c = sym (ap (λ (k : ℕ). first (λ k. same (unpad (part (2 + k * 32) 32 (c .before .before .before .before .before .before .before .before .args .s .now))) (c .before .before .before .before .before .before .before .before .args .name .now)) k 0) (sym (c .before .before .before .before .before .rows .ensures)) ∙ search-found (λ k. same (unpad (part (2 + k * 32) 32 (c .before .before .before .before .before .before .before .before .args .s .now))) (c .before .before .before .before .before .before .before .before .args .name .now)) (c .before .before .before .before .before .rows .result) (c .before .before .before .before .loop .i) (c .before .before .before .before .loop .inv .2) (c .before .before .before .loop-test .taken) (ap (λ (l : List ℕ). same (unpad l) (c .before .before .before .before .before .before .before .before .args .name .now)) (sym (run-lent (c .before .before .before .before .before .before .before .before .args .s .now) 2 (c .before .before .before .before .loop .i) 32 (c .before .before .before .before .loop .inv .1) refl)) ∙ sym (c .before .is-named .ensures) ∙ c .if1 .taken))
 
 add-at : tie.Need-add-at Inv-loop μ-loop
 add-at c = omega (arith, run-room (count (c .before .before .before .before .before .before .before .before .args .s .now)) 32 (c .before .before .before .before .loop .i) (omega (arith, c .before .before .before .before .before .rows .ensures)), c .before .before .before .before .loop .inv .1)
@@ -60,7 +54,7 @@ loop-less : tie.Need-loop-less Inv-loop μ-loop
 loop-less c = omega arith
 
 loop-again : tie.Need-loop-again Inv-loop μ-loop
-loop-again c = (omega arith, omega arith, search-more (λ k. same (unpad (part (2 + k * 32) 32 (c .before .before .before .before .before .before .before .before .args .s .now))) (c .before .before .before .before .before .before .before .before .args .name .now)) (c .before .before .before .before .before .rows .result) (c .before .before .before .before .loop .i) (c .before .before .before .before .loop .inv .2) (c .before .before .before .loop-test .taken) (ap (λ (l : List ℕ). same (unpad l) (c .before .before .before .before .before .before .before .before .args .name .now)) (sym (cell-lent (c .before .before .before .before .before .before .before .before .args .s .now) 2 (c .before .before .before .before .loop .i) 32 (c .before .before .before .before .loop .inv .1) refl)) ∙ sym (c .before .is-named .ensures) ∙ c .if1 .left))
+loop-again c = (omega arith, omega arith, search-more (λ k. same (unpad (part (2 + k * 32) 32 (c .before .before .before .before .before .before .before .before .args .s .now))) (c .before .before .before .before .before .before .before .before .args .name .now)) (c .before .before .before .before .before .rows .result) (c .before .before .before .before .loop .i) (c .before .before .before .before .loop .inv .2) (c .before .before .before .loop-test .taken) (ap (λ (l : List ℕ). same (unpad l) (c .before .before .before .before .before .before .before .before .args .name .now)) (sym (run-lent (c .before .before .before .before .before .before .before .before .args .s .now) 2 (c .before .before .before .before .loop .i) 32 (c .before .before .before .before .loop .inv .1) refl)) ∙ sym (c .before .is-named .ensures) ∙ c .if1 .left))
 
 returns-2 : tie.Need-returns-2 Inv-loop μ-loop
 unfolding rowOf

@@ -3,8 +3,7 @@ use Prim.Native.Nat.{ℕ, _+_, _*_, _≤_}
 use native.Mathlib.Omega.{arith}
 use native.Mathlib.Nat.{mul-le-mul, mul-add}
 use borrow.Author.Needs.{needs}
-use mathlib.Core.Path.{_≡_, sym, ap, _∙_}
-use mathlib.Core.Bool.{Bool, true, not, _&&_, _||_}
+use mathlib.Core.Path.{sym, ap, _∙_}
 use lib.Dec.{leb}
 use lib.ListN.{length}
 use borrow.Author.Tests.{eq-eqb, ne-eqb, le-leb, lt-leb, not-true, not-false}
@@ -13,12 +12,6 @@ use Rattle.lists.proofs.Scans.{and-false}
 use Rattle.openrdson_core.specs.Blocks as spec
 use Rattle.openrdson_core.proofs.blocks.is_block.Statement.{statement}
 use Rattle.openrdson_core.proofs.blocks.is_block.Tie as tie
-use Rattle.openrdson_core.proofs.blocks.is_block.Reads as reads
-use Rattle.openrdson_core.proofs.blocks.is_block.Lts as lts
-use Rattle.openrdson_core.proofs.blocks.all_cells.Reads as all-cells-reads
-use Rattle.openrdson_core.proofs.blocks.are_distinct.Reads as are-distinct-reads
-use Rattle.openrdson_core.proofs.blocks.rows.Reads as rows-reads
-use Rattle.openrdson_core.proofs.blocks.width.Reads as width-reads
 
 returns : tie.Need-returns
 unfolding spec.blockOk

@@ -1,16 +1,11 @@
 -- `is_cell` meets its contract: by the kind. Assumes nothing.
 use native.Mathlib.Omega.{arith}
-use mathlib.Core.Path.{_≡_, sym, ap, _∙_}
+use mathlib.Core.Path.{sym, ap, _∙_}
 use borrow.Author.Needs.{needs}
 use borrow.Author.Tests.{not-true, not-false}
 use Rattle.openrdson_core.specs.Blocks.{widthOf}
 use Rattle.openrdson_core.proofs.blocks.is_cell.Statement.{statement}
 use Rattle.openrdson_core.proofs.blocks.is_cell.Tie as tie
-use Rattle.openrdson_core.proofs.blocks.is_cell.Reads as reads
-use Rattle.openrdson_core.proofs.blocks.is_cell.Lts as lts
-use Rattle.openrdson_core.proofs.blocks.is_name_or_none.Reads as is-name-or-none-reads
-use Rattle.openrdson_core.proofs.blocks.is_stack_entry.Reads as is-stack-entry-reads
-use Rattle.openrdson_core.proofs.bytes.is_name.Reads as is-name-reads
 
 enum-told : tie.Need-enum-told
 enum-told c = search needs

@@ -2,9 +2,6 @@
 use borrow.Author.Needs.{needs}
 use Rattle.openrdson_core.proofs.blocks.is_figure.Statement.{statement}
 use Rattle.openrdson_core.proofs.blocks.is_figure.Tie as tie
-use Rattle.openrdson_core.proofs.blocks.is_figure.Reads as reads
-use Rattle.openrdson_core.proofs.blocks.is_figure.Lts as lts
-use Rattle.openrdson_core.proofs.bytes.is_zero.Reads as is-zero-reads
 
 returns : tie.Need-returns
 returns c = rw (c .if1 .taken)

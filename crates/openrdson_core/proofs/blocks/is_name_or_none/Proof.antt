@@ -4,10 +4,6 @@ use borrow.Author.Needs.{needs}
 use Rattle.openrdson_core.specs.Blocks.{nameOrNone}
 use Rattle.openrdson_core.proofs.blocks.is_name_or_none.Statement.{statement}
 use Rattle.openrdson_core.proofs.blocks.is_name_or_none.Tie as tie
-use Rattle.openrdson_core.proofs.blocks.is_name_or_none.Reads as reads
-use Rattle.openrdson_core.proofs.blocks.is_name_or_none.Lts as lts
-use Rattle.openrdson_core.proofs.bytes.is_name.Reads as is-name-reads
-use Rattle.openrdson_core.proofs.bytes.is_zero.Reads as is-zero-reads
 
 is-zero-requires : tie.Need-is-zero-requires
 is-zero-requires c κs = search needs

@@ -1,16 +1,14 @@
 -- `is_named` meets its contract. Assumes nothing.
 use native.Mathlib.Omega.{arith}
-use mathlib.Core.Path.{_≡_, sym, ap, _∙_}
+use mathlib.Core.Path.{ap, _∙_}
 use borrow.Author.Needs.{needs}
-use Prim.Native.Nat.{ℕ, _-_}
+use Prim.Native.Nat.{ℕ}
+use mathlib.Core.List.{List}
 use lib.ListN.{take}
+use Rattle.lists.proofs.Parts.{head-lent}
 use Rattle.openrdson_core.specs.Bytes.{same}
 use Rattle.openrdson_core.proofs.blocks.is_named.Statement.{statement}
 use Rattle.openrdson_core.proofs.blocks.is_named.Tie as tie
-use Rattle.openrdson_core.proofs.blocks.is_named.Reads as reads
-use Rattle.openrdson_core.proofs.blocks.is_named.Lts as lts
-use Rattle.openrdson_core.proofs.bytes.is_same.Reads as is-same-reads
-use Rattle.openrdson_core.proofs.bytes.name_length.Reads as name-length-reads
 
 name-length-requires : tie.Need-name-length-requires
 name-length-requires c κs = search needs
@@ -28,7 +26,7 @@ is-same-requires : tie.Need-is-same-requires
 is-same-requires c κs = search needs
 
 returns : tie.Need-returns
-returns c = c .is-same .ensures ∙ (let e : c .before .before .name-length .result - 0 ≡ c .before .before .name-length .result = omega arith in ap (λ (k : ℕ). same (take k (c .before .before .before .before .before .args .c .now)) (c .before .before .before .before .before .args .name .now)) (e ∙ c .before .before .name-length .ensures .0))
+returns c = let a = c .before .before .before .before .before .args in c .is-same .ensures ∙ ap (λ (l : List ℕ). same l (a .name .now)) (head-lent (a .c .now) (c .before .before .name-length .result)) ∙ ap (λ (k : ℕ). same (take k (a .c .now)) (a .name .now)) (c .before .before .name-length .ensures .0)
 
 pub is-named-spec : {M : Type 1} → statement M
 is-named-spec =

@@ -3,19 +3,15 @@ use Prim.Native.Nat.{ℕ, _+_, _*_, _-_, _≤_}
 use native.Mathlib.Omega.{arith}
 use borrow.Author.Needs.{needs}
 use mathlib.Core.Path.{_≡_, refl, sym, ap, _∙_}
-use mathlib.Core.Bool.{Bool, true, not}
+use mathlib.Core.Bool.{true, not}
 use mathlib.Core.List.{List}
-use lib.ListN.{length}
+use Rattle.lists.proofs.Parts.{run-lent}
 use Rattle.lists.specs.Lists.{part, allBelow}
 use Rattle.lists.proofs.Scans.{all-start, all-more, all-fails}
 use Rattle.lists.proofs.Fills.{run-room, run-first, run-next}
 use Rattle.openrdson_core.specs.Bytes.{same}
-use Rattle.openrdson_core.proofs.BlockLaws.{cell-lent}
 use Rattle.openrdson_core.proofs.blocks.is_new.Statement.{statement}
 use Rattle.openrdson_core.proofs.blocks.is_new.Tie as tie
-use Rattle.openrdson_core.proofs.blocks.is_new.Reads as reads
-use Rattle.openrdson_core.proofs.blocks.is_new.Lts as lts
-use Rattle.openrdson_core.proofs.bytes.is_same.Reads as is-same-reads
 
 abbrev Inv-loop : tie.InvT-loop
 Inv-loop s w n cell at₀ j₀ at j = (j ≤ n) × (at ≡ 2 + j * w) × (allBelow j (λ k. not (same (part (2 + k * w) w s) (part (2 + n * w) w s))) ≡ true)
@@ -60,7 +56,7 @@ is-same-requires : tie.Need-is-same-requires Inv-loop μ-loop
 is-same-requires c κs = search needs
 
 returns : tie.Need-returns Inv-loop μ-loop
-returns c = sym (all-fails (λ k. not (same (part (2 + k * (c .before .before .before .before .before .before .before .args .w)) (c .before .before .before .before .before .before .before .args .w) (c .before .before .before .before .before .before .before .args .s .now)) (part (2 + (c .before .before .before .before .before .before .before .args .n) * (c .before .before .before .before .before .before .before .args .w)) (c .before .before .before .before .before .before .before .args .w) (c .before .before .before .before .before .before .before .args .s .now)))) (c .before .before .before .before .before .before .before .args .n) (c .before .before .before .before .before .loop .j) (c .before .before .before .before .loop-test .taken) (ap not (ap (λ (l : List ℕ). same l (part (2 + (c .before .before .before .before .before .before .before .args .n) * (c .before .before .before .before .before .before .before .args .w)) (c .before .before .before .before .before .before .before .args .w) (c .before .before .before .before .before .before .before .args .s .now))) (sym (cell-lent (c .before .before .before .before .before .before .before .args .s .now) 2 (c .before .before .before .before .before .loop .j) (c .before .before .before .before .before .before .before .args .w) (c .before .before .before .before .before .loop .inv .1) refl)) ∙ ap (same _) (sym (cell-lent (c .before .before .before .before .before .before .before .args .s .now) 2 (c .before .before .before .before .before .before .before .args .n) (c .before .before .before .before .before .before .before .args .w) refl refl)) ∙ sym (c .before .is-same .ensures)) ∙ ap not (c .if1 .taken)))
+returns c = sym (all-fails (λ k. not (same (part (2 + k * (c .before .before .before .before .before .before .before .args .w)) (c .before .before .before .before .before .before .before .args .w) (c .before .before .before .before .before .before .before .args .s .now)) (part (2 + (c .before .before .before .before .before .before .before .args .n) * (c .before .before .before .before .before .before .before .args .w)) (c .before .before .before .before .before .before .before .args .w) (c .before .before .before .before .before .before .before .args .s .now)))) (c .before .before .before .before .before .before .before .args .n) (c .before .before .before .before .before .loop .j) (c .before .before .before .before .loop-test .taken) (ap not (ap (λ (l : List ℕ). same l (part (2 + (c .before .before .before .before .before .before .before .args .n) * (c .before .before .before .before .before .before .before .args .w)) (c .before .before .before .before .before .before .before .args .w) (c .before .before .before .before .before .before .before .args .s .now))) (sym (run-lent (c .before .before .before .before .before .before .before .args .s .now) 2 (c .before .before .before .before .before .loop .j) (c .before .before .before .before .before .before .before .args .w) (c .before .before .before .before .before .loop .inv .1) refl)) ∙ ap (same _) (sym (run-lent (c .before .before .before .before .before .before .before .args .s .now) 2 (c .before .before .before .before .before .before .before .args .n) (c .before .before .before .before .before .before .before .args .w) refl refl)) ∙ sym (c .before .is-same .ensures)) ∙ ap not (c .if1 .taken)))
 
 add-at : tie.Need-add-at Inv-loop μ-loop
 add-at c = omega (arith, run-room (c .before .before .before .before .before .before .before .args .n) (c .before .before .before .before .before .before .before .args .w) (c .before .before .before .before .before .loop .j) (c .before .before .before .before .loop-test .taken), c .before .before .before .before .before .loop .inv .1)
@@ -72,7 +68,7 @@ loop-less : tie.Need-loop-less Inv-loop μ-loop
 loop-less c = omega arith
 
 loop-again : tie.Need-loop-again Inv-loop μ-loop
-loop-again c = (omega arith, run-next 2 (c .before .before .before .before .before .before .before .args .w) (c .before .before .before .before .before .loop .j) (c .before .before .before .before .before .loop .inv .1), all-more (λ k. not (same (part (2 + k * (c .before .before .before .before .before .before .before .args .w)) (c .before .before .before .before .before .before .before .args .w) (c .before .before .before .before .before .before .before .args .s .now)) (part (2 + (c .before .before .before .before .before .before .before .args .n) * (c .before .before .before .before .before .before .before .args .w)) (c .before .before .before .before .before .before .before .args .w) (c .before .before .before .before .before .before .before .args .s .now)))) (c .before .before .before .before .before .loop .j) (c .before .before .before .before .before .loop .inv .2) (ap not (ap (λ (l : List ℕ). same l (part (2 + (c .before .before .before .before .before .before .before .args .n) * (c .before .before .before .before .before .before .before .args .w)) (c .before .before .before .before .before .before .before .args .w) (c .before .before .before .before .before .before .before .args .s .now))) (sym (cell-lent (c .before .before .before .before .before .before .before .args .s .now) 2 (c .before .before .before .before .before .loop .j) (c .before .before .before .before .before .before .before .args .w) (c .before .before .before .before .before .loop .inv .1) refl)) ∙ ap (same _) (sym (cell-lent (c .before .before .before .before .before .before .before .args .s .now) 2 (c .before .before .before .before .before .before .before .args .n) (c .before .before .before .before .before .before .before .args .w) refl refl)) ∙ sym (c .before .is-same .ensures)) ∙ ap not (c .if1 .left)))
+loop-again c = (omega arith, run-next 2 (c .before .before .before .before .before .before .before .args .w) (c .before .before .before .before .before .loop .j) (c .before .before .before .before .before .loop .inv .1), all-more (λ k. not (same (part (2 + k * (c .before .before .before .before .before .before .before .args .w)) (c .before .before .before .before .before .before .before .args .w) (c .before .before .before .before .before .before .before .args .s .now)) (part (2 + (c .before .before .before .before .before .before .before .args .n) * (c .before .before .before .before .before .before .before .args .w)) (c .before .before .before .before .before .before .before .args .w) (c .before .before .before .before .before .before .before .args .s .now)))) (c .before .before .before .before .before .loop .j) (c .before .before .before .before .before .loop .inv .2) (ap not (ap (λ (l : List ℕ). same l (part (2 + (c .before .before .before .before .before .before .before .args .n) * (c .before .before .before .before .before .before .before .args .w)) (c .before .before .before .before .before .before .before .args .w) (c .before .before .before .before .before .before .before .args .s .now))) (sym (run-lent (c .before .before .before .before .before .before .before .args .s .now) 2 (c .before .before .before .before .before .loop .j) (c .before .before .before .before .before .before .before .args .w) (c .before .before .before .before .before .loop .inv .1) refl)) ∙ ap (same _) (sym (run-lent (c .before .before .before .before .before .before .before .args .s .now) 2 (c .before .before .before .before .before .before .before .args .n) (c .before .before .before .before .before .before .before .args .w) refl refl)) ∙ sym (c .before .is-same .ensures)) ∙ ap not (c .if1 .left)))
 
 returns-2 : tie.Need-returns-2 Inv-loop μ-loop
 returns-2 c = let e : c .before .loop .j ≡ (c .before .before .before .args .n) = omega arith in sym (sym (ap (λ (k : ℕ). allBelow k (λ k. not (same (part (2 + k * (c .before .before .before .args .w)) (c .before .before .before .args .w) (c .before .before .before .args .s .now)) (part (2 + (c .before .before .before .args .n) * (c .before .before .before .args .w)) (c .before .before .before .args .w) (c .before .before .before .args .s .now))))) e) ∙ c .before .loop .inv .2)

@@ -1,14 +1,11 @@
 -- `is_stack_entry` meets its contract: a test a part. Assumes nothing.
 use native.Mathlib.Omega.{arith}
-use mathlib.Core.Path.{_≡_, sym, _∙_}
+use mathlib.Core.Path.{sym, _∙_}
 use borrow.Author.Needs.{needs}
 use borrow.Author.Tests.{le-leb, lt-leb, not-true, not-false}
 use Rattle.openrdson_core.specs.Blocks.{figuresOk}
 use Rattle.openrdson_core.proofs.blocks.is_stack_entry.Statement.{statement}
 use Rattle.openrdson_core.proofs.blocks.is_stack_entry.Tie as tie
-use Rattle.openrdson_core.proofs.blocks.is_stack_entry.Reads as reads
-use Rattle.openrdson_core.proofs.blocks.is_stack_entry.Lts as lts
-use Rattle.openrdson_core.proofs.blocks.is_figure.Reads as is-figure-reads
 
 shared-slice-read-flag : tie.Need-shared-slice-read-flag
 shared-slice-read-flag c = omega arith

@@ -12,9 +12,6 @@ use Rattle.lists.proofs.Parts.{rest-lent}
 use Rattle.openrdson_core.specs.Bytes as spec
 use Rattle.openrdson_core.proofs.bytes.contains.Statement.{statement}
 use Rattle.openrdson_core.proofs.bytes.contains.Tie as tie
-use Rattle.openrdson_core.proofs.bytes.contains.Reads as reads
-use Rattle.openrdson_core.proofs.bytes.contains.Lts as lts
-use Rattle.openrdson_core.proofs.bytes.starts_with.Reads as starts-with-reads
 
 abbrev Inv-loop : tie.InvT-loop
 Inv-loop s p i₀ i = (i ≤ length s) × (anyBelow i (λ k. spec.startsWith (drop k s) p) ≡ false)

@@ -1,17 +1,12 @@
 -- `is_name` meets its contract. Assumes nothing.
 use native.Mathlib.Omega.{arith}
-use mathlib.Core.Path.{_≡_, sym, ap, _∙_}
+use mathlib.Core.Path.{ap, _∙_}
 use borrow.Author.Needs.{needs}
 use borrow.Author.Tests.{lt-ltb, le-ltb}
-use lib.ListN.{length, drop}
 use Rattle.lists.proofs.Parts.{rest-lent}
 use Rattle.openrdson_core.specs.Bytes.{nameOk, nameLength, zeros}
 use Rattle.openrdson_core.proofs.bytes.is_name.Statement.{statement}
 use Rattle.openrdson_core.proofs.bytes.is_name.Tie as tie
-use Rattle.openrdson_core.proofs.bytes.is_name.Reads as reads
-use Rattle.openrdson_core.proofs.bytes.is_name.Lts as lts
-use Rattle.openrdson_core.proofs.bytes.is_zero.Reads as is-zero-reads
-use Rattle.openrdson_core.proofs.bytes.name_length.Reads as name-length-reads
 
 name-length-requires : tie.Need-name-length-requires
 name-length-requires c κs = search needs

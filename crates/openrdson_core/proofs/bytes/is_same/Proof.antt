@@ -11,8 +11,6 @@ use Rattle.lists.proofs.Scans.{all-start, all-more, all-fails}
 use Rattle.openrdson_core.specs.Bytes.{byteAt, same}
 use Rattle.openrdson_core.proofs.bytes.is_same.Statement.{statement}
 use Rattle.openrdson_core.proofs.bytes.is_same.Tie as tie
-use Rattle.openrdson_core.proofs.bytes.is_same.Reads as reads
-use Rattle.openrdson_core.proofs.bytes.is_same.Lts as lts
 
 abbrev Inv-loop : tie.InvT-loop
 Inv-loop a b i₀ i = (i ≤ length a) × (allBelow i (λ k. eqb (byteAt a k) (byteAt b k)) ≡ true)

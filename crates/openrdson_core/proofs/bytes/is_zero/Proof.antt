@@ -11,8 +11,6 @@ use Rattle.lists.proofs.Scans.{all-start, all-more, all-fails}
 use Rattle.openrdson_core.specs.Bytes.{byteAt, zeros}
 use Rattle.openrdson_core.proofs.bytes.is_zero.Statement.{statement}
 use Rattle.openrdson_core.proofs.bytes.is_zero.Tie as tie
-use Rattle.openrdson_core.proofs.bytes.is_zero.Reads as reads
-use Rattle.openrdson_core.proofs.bytes.is_zero.Lts as lts
 
 abbrev Inv-loop : tie.InvT-loop
 Inv-loop c i₀ i = (i ≤ length c) × (allBelow i (λ k. eqb (byteAt c k) 0) ≡ true)

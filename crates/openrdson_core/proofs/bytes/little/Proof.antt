@@ -9,9 +9,6 @@ use Rattle.openrdson_core.specs.Bytes as spec
 use Rattle.openrdson_core.proofs.ByteLaws.{little-back, little-fits}
 use Rattle.openrdson_core.proofs.bytes.little.Statement.{statement}
 use Rattle.openrdson_core.proofs.bytes.little.Tie as tie
-use Rattle.openrdson_core.proofs.bytes.little.Reads as reads
-use Rattle.openrdson_core.proofs.bytes.little.Lts as lts
-use Rattle.openrdson_core.proofs.bytes.wide.Reads as wide-reads
 
 abbrev Inv-loop : tie.InvT-loop
 Inv-loop c value₀ i₀ value i = (i ≤ length c) × (value ≡ spec.little (drop i c))

@@ -1,7 +1,7 @@
 -- `name_length` meets its contract: a search. Assumes nothing.
-use Prim.Native.Nat.{ℕ, _≤_, _-_}
+use Prim.Native.Nat.{_≤_, _-_}
 use native.Mathlib.Omega.{arith}
-use mathlib.Core.Path.{_≡_, sym, ap, _∙_}
+use mathlib.Core.Path.{_≡_, _∙_}
 use lib.Dec.{eqb}
 use lib.ListN.{length}
 use borrow.Author.Tests.{eq-eqb, ne-eqb}
@@ -10,8 +10,6 @@ use Rattle.openrdson_core.specs.Bytes.{byteAt}
 use Rattle.openrdson_core.proofs.ByteLaws.{name-length, name-whole}
 use Rattle.openrdson_core.proofs.bytes.name_length.Statement.{statement}
 use Rattle.openrdson_core.proofs.bytes.name_length.Tie as tie
-use Rattle.openrdson_core.proofs.bytes.name_length.Reads as reads
-use Rattle.openrdson_core.proofs.bytes.name_length.Lts as lts
 
 abbrev Inv-loop : tie.InvT-loop
 Inv-loop c i₀ i = (i ≤ length c) × Searched (λ k. eqb (byteAt c k) 0) (length c) i

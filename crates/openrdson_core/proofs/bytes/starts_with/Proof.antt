@@ -11,8 +11,6 @@ use Rattle.lists.proofs.Scans.{all-start, all-more, all-fails}
 use Rattle.openrdson_core.specs.Bytes.{byteAt, startsWith}
 use Rattle.openrdson_core.proofs.bytes.starts_with.Statement.{statement}
 use Rattle.openrdson_core.proofs.bytes.starts_with.Tie as tie
-use Rattle.openrdson_core.proofs.bytes.starts_with.Reads as reads
-use Rattle.openrdson_core.proofs.bytes.starts_with.Lts as lts
 
 abbrev Inv-loop : tie.InvT-loop
 Inv-loop s p i₀ i = (i ≤ length p) × (allBelow i (λ k. eqb (byteAt s k) (byteAt p k)) ≡ true)

@@ -1,26 +1,20 @@
 -- `find_pattern` meets its contract: a search, key by key. Assumes nothing.
 use Prim.Native.Nat.{ℕ, _+_, _*_, _-_, _≤_}
 use native.Mathlib.Omega.{arith}
-use borrow.Author.Needs.{needs}
 use mathlib.Core.Path.{_≡_, refl, sym, ap, _∙_}
 use mathlib.Core.Bool.{true}
-use mathlib.Core.Option.{Option, some, none}
 use lib.Dec.{eqb}
 use borrow.Author.Tests.{eq-eqb, ne-eqb}
+use Rattle.lists.proofs.Parts.{run-lent, lent-length}
 use Rattle.lists.specs.Lists.{part, first}
 use Rattle.lists.proofs.Searches.{Searched, search-start, search-found, search-more, search-end}
 use Rattle.lists.proofs.Fills.{run-room}
 use Rattle.openrdson_core.specs.Bytes as bytes
-use Rattle.openrdson_core.specs.Blocks.{count}
 use Rattle.openrdson_core.specs.Layout.{rowOfPattern}
 use Rattle.openrdson_core.specs.declared.blocks.Cell.the-variants.{Name, Number}
-use Rattle.openrdson_core.proofs.BlockLaws.{Counted, counted, cell-lent, lent-length}
+use Rattle.openrdson_core.proofs.BlockLaws.{Counted, counted}
 use Rattle.openrdson_core.proofs.layout.find_pattern.Statement.{statement}
 use Rattle.openrdson_core.proofs.layout.find_pattern.Tie as tie
-use Rattle.openrdson_core.proofs.layout.find_pattern.Reads as reads
-use Rattle.openrdson_core.proofs.layout.find_pattern.Lts as lts
-use Rattle.openrdson_core.proofs.blocks.rows.Reads as rows-reads
-use Rattle.openrdson_core.proofs.bytes.little.Reads as little-reads
 
 abbrev Inv-loop : tie.InvT-loop
 Inv-loop s bits n at₀ i₀ at i = (i ≤ n) × (at ≡ 2 + i * 2) × Searched (λ k. eqb (bytes.little (part (2 + k * 2) 2 s)) bits) n i
@@ -51,7 +45,7 @@ little-requires c κs = let w : Counted Number Name (c .before .before .before .
 
 returns : tie.Need-returns Inv-loop μ-loop
 unfolding rowOfPattern
-returns c = sym (ap (λ (k : ℕ). first (λ k. eqb (bytes.little (part (2 + k * 2) 2 (c .before .before .before .before .before .before .before .args .s .now))) (c .before .before .before .before .before .before .before .args .bits)) k 0) (sym (c .before .before .before .before .before .rows .ensures)) ∙ search-found (λ k. eqb (bytes.little (part (2 + k * 2) 2 (c .before .before .before .before .before .before .before .args .s .now))) (c .before .before .before .before .before .before .before .args .bits)) (c .before .before .before .before .before .rows .result) (c .before .before .before .before .loop .i) (c .before .before .before .before .loop .inv .2) (c .before .before .before .loop-test .taken) (ap (λ (k : ℕ). eqb k (c .before .before .before .before .before .before .before .args .bits)) (ap bytes.little (sym (cell-lent (c .before .before .before .before .before .before .before .args .s .now) 2 (c .before .before .before .before .loop .i) 2 (c .before .before .before .before .loop .inv .1) refl)) ∙ sym (c .before .little .ensures)) ∙ eq-eqb _ _ (c .if1 .taken)))
+returns c = sym (ap (λ (k : ℕ). first (λ k. eqb (bytes.little (part (2 + k * 2) 2 (c .before .before .before .before .before .before .before .args .s .now))) (c .before .before .before .before .before .before .before .args .bits)) k 0) (sym (c .before .before .before .before .before .rows .ensures)) ∙ search-found (λ k. eqb (bytes.little (part (2 + k * 2) 2 (c .before .before .before .before .before .before .before .args .s .now))) (c .before .before .before .before .before .before .before .args .bits)) (c .before .before .before .before .before .rows .result) (c .before .before .before .before .loop .i) (c .before .before .before .before .loop .inv .2) (c .before .before .before .loop-test .taken) (ap (λ (k : ℕ). eqb k (c .before .before .before .before .before .before .before .args .bits)) (ap bytes.little (sym (run-lent (c .before .before .before .before .before .before .before .args .s .now) 2 (c .before .before .before .before .loop .i) 2 (c .before .before .before .before .loop .inv .1) refl)) ∙ sym (c .before .little .ensures)) ∙ eq-eqb _ _ (c .if1 .taken)))
 
 add-at : tie.Need-add-at Inv-loop μ-loop
 add-at c = let w : Counted Number Name (c .before .before .before .before .before .before .before .args .s .now) = counted Number Name true (c .before .before .before .before .before .before .before .args .s .now) (c .before .before .before .before .before .before .before .pre) in omega (arith, c .before .before .before .before .before .rows .ensures, run-room (c .before .before .before .before .before .rows .result) 2 (c .before .before .before .before .loop .i) (c .before .before .before .loop-test .taken), c .before .before .before .before .loop .inv .1)
@@ -63,7 +57,7 @@ loop-less : tie.Need-loop-less Inv-loop μ-loop
 loop-less c = omega arith
 
 loop-again : tie.Need-loop-again Inv-loop μ-loop
-loop-again c = (omega arith, omega arith, search-more (λ k. eqb (bytes.little (part (2 + k * 2) 2 (c .before .before .before .before .before .before .before .args .s .now))) (c .before .before .before .before .before .before .before .args .bits)) (c .before .before .before .before .before .rows .result) (c .before .before .before .before .loop .i) (c .before .before .before .before .loop .inv .2) (c .before .before .before .loop-test .taken) (ap (λ (k : ℕ). eqb k (c .before .before .before .before .before .before .before .args .bits)) (ap bytes.little (sym (cell-lent (c .before .before .before .before .before .before .before .args .s .now) 2 (c .before .before .before .before .loop .i) 2 (c .before .before .before .before .loop .inv .1) refl)) ∙ sym (c .before .little .ensures)) ∙ ne-eqb _ _ (c .if1 .left)))
+loop-again c = (omega arith, omega arith, search-more (λ k. eqb (bytes.little (part (2 + k * 2) 2 (c .before .before .before .before .before .before .before .args .s .now))) (c .before .before .before .before .before .before .before .args .bits)) (c .before .before .before .before .before .rows .result) (c .before .before .before .before .loop .i) (c .before .before .before .before .loop .inv .2) (c .before .before .before .loop-test .taken) (ap (λ (k : ℕ). eqb k (c .before .before .before .before .before .before .before .args .bits)) (ap bytes.little (sym (run-lent (c .before .before .before .before .before .before .before .args .s .now) 2 (c .before .before .before .before .loop .i) 2 (c .before .before .before .before .loop .inv .1) refl)) ∙ sym (c .before .little .ensures)) ∙ ne-eqb _ _ (c .if1 .left)))
 
 returns-2 : tie.Need-returns-2 Inv-loop μ-loop
 unfolding rowOfPattern

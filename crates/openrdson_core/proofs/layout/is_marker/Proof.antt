@@ -4,10 +4,6 @@ use borrow.Author.Needs.{needs}
 use Rattle.openrdson_core.specs.Layout.{isMarker}
 use Rattle.openrdson_core.proofs.layout.is_marker.Statement.{statement}
 use Rattle.openrdson_core.proofs.layout.is_marker.Tie as tie
-use Rattle.openrdson_core.proofs.layout.is_marker.Reads as reads
-use Rattle.openrdson_core.proofs.layout.is_marker.Lts as lts
-use Rattle.openrdson_core.proofs.bytes.contains.Reads as contains-reads
-use Rattle.openrdson_core.proofs.bytes.starts_with.Reads as starts-with-reads
 
 slice-aggregate-starts-with : tie.Need-slice-aggregate-starts-with
 slice-aggregate-starts-with c = search needs

@@ -8,10 +8,6 @@ use Rattle.openrdson_core.specs.Maps.{spanned, spanWithin}
 use Rattle.openrdson_core.specs.Layout.{layerName, nameOfLayer}
 use Rattle.openrdson_core.proofs.layout.layer_name.Statement.{statement}
 use Rattle.openrdson_core.proofs.layout.layer_name.Tie as tie
-use Rattle.openrdson_core.proofs.layout.layer_name.Reads as reads
-use Rattle.openrdson_core.proofs.layout.layer_name.Lts as lts
-use Rattle.openrdson_core.proofs.layout.find_layer_name.Reads as find-layer-name-reads
-use Rattle.openrdson_core.proofs.layout.is_layer_names.Reads as is-layer-names-reads
 
 is-layer-names-requires : tie.Need-is-layer-names-requires
 is-layer-names-requires c κs = search needs

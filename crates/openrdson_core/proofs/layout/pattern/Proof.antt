@@ -2,8 +2,6 @@
 use Rattle.openrdson_core.proofs.LayoutLaws.{gap-fits, far-fits, far-within, far-pattern, near-fits, near-pattern}
 use Rattle.openrdson_core.proofs.layout.pattern.Statement.{statement}
 use Rattle.openrdson_core.proofs.layout.pattern.Tie as tie
-use Rattle.openrdson_core.proofs.layout.pattern.Reads as reads
-use Rattle.openrdson_core.proofs.layout.pattern.Lts as lts
 
 sub-below : tie.Need-sub-below
 sub-below c = gap-fits (c .before .args .layer) (c .before .fits .layer) (c .if1 .taken)

@@ -5,9 +5,6 @@ use Rattle.lists.specs.Answer.{mapAnswer}
 use Rattle.openrdson_core.specs.Maps.{placed, isSome}
 use Rattle.openrdson_core.proofs.maps.look_up.Statement.{statement}
 use Rattle.openrdson_core.proofs.maps.look_up.Tie as tie
-use Rattle.openrdson_core.proofs.maps.look_up.Reads as reads
-use Rattle.openrdson_core.proofs.maps.look_up.Lts as lts
-use Rattle.openrdson_core.proofs.maps.name_place.Reads as name-place-reads
 
 name-place-requires : tie.Need-name-place-requires
 name-place-requires c κs = search needs

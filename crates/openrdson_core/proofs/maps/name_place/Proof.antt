@@ -1,18 +1,11 @@
 -- `name_place` meets its contract: the conducting map, then the via map. Assumes nothing.
-use mathlib.Core.Path.{_≡_, sym, ap, subst, _∙_}
+use mathlib.Core.Path.{sym, ap, subst, _∙_}
 use borrow.Author.Needs.{needs}
 use borrow.Author.Tests.{not-true, not-false}
-use Rattle.lists.specs.Answer.{Answer, given}
-use mathlib.Core.Option.{Option, some, none}
-use mathlib.Core.List.{List}
-use Prim.Native.Nat.{ℕ}
-use Rattle.openrdson_core.specs.Maps.{lookup, spanned, spanWithin, orElse, inMap}
+use Rattle.lists.specs.Answer.{given}
+use Rattle.openrdson_core.specs.Maps.{lookup, spanned, spanWithin}
 use Rattle.openrdson_core.proofs.maps.name_place.Statement.{statement}
 use Rattle.openrdson_core.proofs.maps.name_place.Tie as tie
-use Rattle.openrdson_core.proofs.maps.name_place.Reads as reads
-use Rattle.openrdson_core.proofs.maps.name_place.Lts as lts
-use Rattle.openrdson_core.proofs.maps.find_in_map.Reads as find-in-map-reads
-use Rattle.openrdson_core.proofs.maps.is_map.Reads as is-map-reads
 
 is-map-requires : tie.Need-is-map-requires
 is-map-requires c κs = search needs

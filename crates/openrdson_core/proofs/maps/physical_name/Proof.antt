@@ -1,14 +1,11 @@
 -- `physical_name` meets its contract: the part where the name stands. Assumes nothing.
 use native.Mathlib.Omega.{arith}
-use mathlib.Core.Path.{_≡_, refl, sym, ap, subst, _∙_}
+use mathlib.Core.Path.{sym, ap, subst, _∙_}
 use borrow.Author.Needs.{needs}
 use Rattle.lists.proofs.Parts.{part-lent}
 use Rattle.openrdson_core.specs.Maps.{placed, placeWithin, partOf}
 use Rattle.openrdson_core.proofs.maps.physical_name.Statement.{statement}
 use Rattle.openrdson_core.proofs.maps.physical_name.Tie as tie
-use Rattle.openrdson_core.proofs.maps.physical_name.Reads as reads
-use Rattle.openrdson_core.proofs.maps.physical_name.Lts as lts
-use Rattle.openrdson_core.proofs.maps.name_place.Reads as name-place-reads
 
 name-place-requires : tie.Need-name-place-requires
 name-place-requires c κs = search needs

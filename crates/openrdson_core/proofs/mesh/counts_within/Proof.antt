@@ -3,8 +3,6 @@ use borrow.Author.Tests.{le-leb, lt-leb}
 use Rattle.openrdson_core.specs.Mesh.{withinLengths}
 use Rattle.openrdson_core.proofs.mesh.counts_within.Statement.{statement}
 use Rattle.openrdson_core.proofs.mesh.counts_within.Tie as tie
-use Rattle.openrdson_core.proofs.mesh.counts_within.Reads as reads
-use Rattle.openrdson_core.proofs.mesh.counts_within.Lts as lts
 
 returns : tie.Need-returns
 unfolding withinLengths

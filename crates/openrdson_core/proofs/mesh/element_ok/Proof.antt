@@ -4,10 +4,6 @@ use borrow.Author.Tests.{not-true, not-false}
 use borrow.Author.Needs.{needs}
 use Rattle.openrdson_core.proofs.mesh.element_ok.Statement.{statement}
 use Rattle.openrdson_core.proofs.mesh.element_ok.Tie as tie
-use Rattle.openrdson_core.proofs.mesh.element_ok.Reads as reads
-use Rattle.openrdson_core.proofs.mesh.element_ok.Lts as lts
-use Rattle.openrdson_core.proofs.mesh.element_inside.Reads as element-inside-reads
-use Rattle.openrdson_core.proofs.mesh.element_sound.Reads as element-sound-reads
 
 element-sound-requires : tie.Need-element-sound-requires
 element-sound-requires c κs = search needs

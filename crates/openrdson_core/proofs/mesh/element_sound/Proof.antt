@@ -1,79 +1,40 @@
--- `element_sound` meets its contract: by the kind. Assumes nothing.
+-- `element_sound` meets its contract: by how many places it uses. Assumes nothing.
 use Prim.Native.Nat.{_*_}
 use mathlib.Core.Path.{sym, ap, _∙_}
-use lib.ListN.{getD}
+use lib.ListN.{length, getD}
 use Rattle.lists.specs.Lists.{part}
-use Rattle.lists.proofs.Parts.{part-lent}
+use Rattle.lists.proofs.Parts.{part-length}
 use Rattle.openrdson_core.specs.Mesh.{restUnused}
-use Rattle.openrdson_core.specs.Answers.{kindAnswer}
-use Rattle.openrdson_core.proofs.BlockLaws.{lent-length}
-use Rattle.openrdson_core.proofs.MeshLaws.{count-most, sound-none, sound-is}
+use Rattle.openrdson_core.proofs.MeshLaws.{sound-none, sound-is}
 use borrow.Author.Needs.{needs}
 use Rattle.openrdson_core.proofs.mesh.element_sound.Statement.{statement}
 use Rattle.openrdson_core.proofs.mesh.element_sound.Tie as tie
-use Rattle.openrdson_core.proofs.mesh.element_sound.Reads as reads
-use Rattle.openrdson_core.proofs.mesh.element_sound.Lts as lts
-use Rattle.openrdson_core.proofs.mesh.ElementType.node_count.Reads as node-count-reads
-use Rattle.openrdson_core.proofs.mesh.element_type.Reads as element-type-reads
-use Rattle.openrdson_core.proofs.mesh.rest_unused.Reads as rest-unused-reads
 
-shared-slice-read-element-type : tie.Need-shared-slice-read-element-type
-shared-slice-read-element-type c = search needs
+shared-slice-read-used-places : tie.Need-shared-slice-read-used-places
+shared-slice-read-used-places c = search needs
 
-element-type-requires : tie.Need-element-type-requires
-element-type-requires c κs = search needs
-
-enum-told : tie.Need-enum-told
-enum-told c = search needs
-
-enum-known-found : tie.Need-enum-known-found
-enum-known-found c = search needs
-
-node-count-requires : tie.Need-node-count-requires
-node-count-requires c κs = search needs
-
-mul-first : tie.Need-mul-first
-mul-first c = search needs
-
-add-own : tie.Need-add-own
-add-own c = search needs
-
-mul-own : tie.Need-mul-own
-mul-own c = search needs
-
-sub-own : tie.Need-sub-own
-sub-own c = search needs
-
-part-own-start : tie.Need-part-own-start
-part-own-start c = search needs
-
-part-own-end : tie.Need-part-own-end
-part-own-end c = search needs
-
-rest-unused-requires : tie.Need-rest-unused-requires
-rest-unused-requires c κs = (lent-length (c .before .before .before .before .before .before .before .before .before .args .places .now) (8 * c .before .before .before .before .before .before .before .before .before .args .e) 8 (c .before .before .before .before .before .before .before .before .before .pre .1), count-most (getD (c .before .before .before .before .before .before .before .before .before .args .kinds .now) (c .before .before .before .before .before .before .before .before .before .args .e) 0) (sym (c .before .before .before .before .before .element-type .ensures) ∙ ap kindAnswer (c .before .before .before .found .given .1)) (c .before .node-count .ensures))
+used-places-requires : tie.Need-used-places-requires
+used-places-requires c κs = search needs
 
 returns : tie.Need-returns
-returns c = sym (sound-none (getD (c .before .before .before .before .before .before .args .kinds .now) (c .before .before .before .before .before .before .args .e) 0) (part (8 * c .before .before .before .before .before .before .args .e) 8 (c .before .before .before .before .before .before .args .places .now)) (sym (c .before .before .element-type .ensures) ∙ ap kindAnswer (c .enum-told .given .1)))
+returns c = sym (sound-none (getD (c .before .before .before .before .before .args .kinds .now) (c .before .before .before .before .before .args .e) 0) (part (8 * c .before .before .before .before .before .args .e) 8 (c .before .before .before .before .before .args .places .now)) (c .before .used-places .ensures .0) (c .if1 .taken))
+
+places-of-requires : tie.Need-places-of-requires
+places-of-requires c κs = search needs
+
+rest-unused-requires : tie.Need-rest-unused-requires
+rest-unused-requires c κs = (ap length (c .places-of .ensures) ∙ part-length (c .before .before .before .before .before .before .args .places .now) (8 * c .before .before .before .before .before .before .args .e) 8 (c .before .before .before .before .before .before .pre .1), c .before .before .used-places .ensures .1)
 
 returns-2 : tie.Need-returns-2
-returns-2 c = c .rest-unused .ensures ∙ ap (restUnused (c .before .before .node-count .result)) (part-lent (c .before .before .before .before .before .before .before .before .before .before .args .places .now) (8 * c .before .before .before .before .before .before .before .before .before .before .args .e) 8) ∙ sym (sound-is (getD (c .before .before .before .before .before .before .before .before .before .before .args .kinds .now) (c .before .before .before .before .before .before .before .before .before .before .args .e) 0) (part (8 * c .before .before .before .before .before .before .before .before .before .before .args .e) 8 (c .before .before .before .before .before .before .before .before .before .before .args .places .now)) (sym (c .before .before .before .before .before .before .element-type .ensures) ∙ ap kindAnswer (c .before .before .before .before .found .given .1)) (c .before .before .node-count .ensures))
+returns-2 c = c .rest-unused .ensures ∙ ap (restUnused (c .before .before .before .used-places .result)) (c .before .places-of .ensures) ∙ sym (sound-is (getD (c .before .before .before .before .before .before .before .args .kinds .now) (c .before .before .before .before .before .before .before .args .e) 0) (part (8 * c .before .before .before .before .before .before .before .args .e) 8 (c .before .before .before .before .before .before .before .args .places .now)) (c .before .before .before .used-places .ensures .0) (c .before .before .if1 .left))
 
 pub element-sound-spec : {M : Type 1} → statement M
 element-sound-spec =
     tie.close
     (tie.spec
-    shared-slice-read-element-type
-    element-type-requires
-    enum-told
-    enum-known-found
-    node-count-requires
-    mul-first
-    add-own
-    mul-own
-    sub-own
-    part-own-start
-    part-own-end
-    rest-unused-requires
+    shared-slice-read-used-places
+    used-places-requires
     returns
+    places-of-requires
+    rest-unused-requires
     returns-2)

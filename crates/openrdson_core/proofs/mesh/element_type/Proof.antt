@@ -3,8 +3,6 @@ use borrow.Author.Tests.{eq-eqb, ne-eqb}
 use Rattle.openrdson_core.specs.Mesh.{kindOf}
 use Rattle.openrdson_core.proofs.mesh.element_type.Statement.{statement}
 use Rattle.openrdson_core.proofs.mesh.element_type.Tie as tie
-use Rattle.openrdson_core.proofs.mesh.element_type.Reads as reads
-use Rattle.openrdson_core.proofs.mesh.element_type.Lts as lts
 
 returns : tie.Need-returns
 unfolding kindOf

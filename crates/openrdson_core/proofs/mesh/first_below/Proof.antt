@@ -10,8 +10,6 @@ use Rattle.openrdson_core.specs.Mesh.{firstBelow}
 use Rattle.openrdson_core.proofs.MeshLaws.{belowAt}
 use Rattle.openrdson_core.proofs.mesh.first_below.Statement.{statement}
 use Rattle.openrdson_core.proofs.mesh.first_below.Tie as tie
-use Rattle.openrdson_core.proofs.mesh.first_below.Reads as reads
-use Rattle.openrdson_core.proofs.mesh.first_below.Lts as lts
 
 abbrev Inv-loop : tie.InvT-loop
 Inv-loop places n nodes i₀ i = (i ≤ n) × (allBelow i (belowAt nodes places) ≡ true)

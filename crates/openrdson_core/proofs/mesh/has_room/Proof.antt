@@ -6,8 +6,6 @@ use borrow.Author.Tests.{le-leb, lt-leb}
 use Rattle.openrdson_core.specs.Mesh.{fits}
 use Rattle.openrdson_core.proofs.mesh.has_room.Statement.{statement}
 use Rattle.openrdson_core.proofs.mesh.has_room.Tie as tie
-use Rattle.openrdson_core.proofs.mesh.has_room.Reads as reads
-use Rattle.openrdson_core.proofs.mesh.has_room.Lts as lts
 
 returns : tie.Need-returns
 unfolding fits

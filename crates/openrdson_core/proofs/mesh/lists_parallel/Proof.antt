@@ -4,8 +4,6 @@ use Rattle.openrdson_core.specs.Mesh.{parallelLengths}
 use Rattle.openrdson_core.proofs.MeshLaws.{eight-each, not-eight}
 use Rattle.openrdson_core.proofs.mesh.lists_parallel.Statement.{statement}
 use Rattle.openrdson_core.proofs.mesh.lists_parallel.Tie as tie
-use Rattle.openrdson_core.proofs.mesh.lists_parallel.Reads as reads
-use Rattle.openrdson_core.proofs.mesh.lists_parallel.Lts as lts
 
 returns : tie.Need-returns
 unfolding parallelLengths

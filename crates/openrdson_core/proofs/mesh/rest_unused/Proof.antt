@@ -8,8 +8,6 @@ use Rattle.openrdson_core.specs.Mesh.{restUnused}
 use Rattle.openrdson_core.proofs.MeshLaws.{emptyAt, rest-start, rest-more, rest-filled}
 use Rattle.openrdson_core.proofs.mesh.rest_unused.Statement.{statement}
 use Rattle.openrdson_core.proofs.mesh.rest_unused.Tie as tie
-use Rattle.openrdson_core.proofs.mesh.rest_unused.Reads as reads
-use Rattle.openrdson_core.proofs.mesh.rest_unused.Lts as lts
 
 abbrev Inv-loop : tie.InvT-loop
 Inv-loop places n i₀ i = (n ≤ i) × (i ≤ 8) × (allBelow i (emptyAt n places) ≡ true)

@@ -2,9 +2,6 @@
 use borrow.Author.Needs.{needs}
 use Rattle.openrdson_core.proofs.solids.heights_in_range.Statement.{statement}
 use Rattle.openrdson_core.proofs.solids.heights_in_range.Tie as tie
-use Rattle.openrdson_core.proofs.solids.heights_in_range.Reads as reads
-use Rattle.openrdson_core.proofs.solids.heights_in_range.Lts as lts
-use Rattle.binary64.proofs.coordinate_in_range.Reads as coordinate-in-range-reads
 
 coordinate-in-range-requires : tie.Need-coordinate-in-range-requires
 coordinate-in-range-requires c κs = search needs

@@ -4,14 +4,10 @@ use mathlib.Core.Path.{_≡_, sym, ap, _∙_}
 use Prim.Native.Nat.{_+_, _-_}
 use lib.ListN.{length}
 use Rattle.openrdson_core.specs.Answers.{checkAnswer}
-use Rattle.openrdson_core.proofs.Rings.{Parted, parted}
+use Rattle.openrdson_core.proofs.Rings.{parted}
 use borrow.Author.Needs.{needs}
 use Rattle.openrdson_core.proofs.solids.part_area.Statement.{statement}
 use Rattle.openrdson_core.proofs.solids.part_area.Tie as tie
-use Rattle.openrdson_core.proofs.solids.part_area.Reads as reads
-use Rattle.openrdson_core.proofs.solids.part_area.Lts as lts
-use Rattle.openrdson_core.proofs.area.polygon_area.Reads as polygon-area-reads
-use Rattle.openrdson_core.proofs.solids.points_check.Reads as points-check-reads
 
 points-check-requires : tie.Need-points-check-requires
 points-check-requires c κs = search needs

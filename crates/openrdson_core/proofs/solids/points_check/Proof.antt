@@ -1,11 +1,8 @@
 -- `points_check` meets its contract: a test a row. Assumes nothing.
 use native.Mathlib.Omega.{arith}
 use borrow.Author.Tests.{ne-eqb, eq-eqb, le-leb, lt-leb}
-use borrow.Author.Needs.{needs}
 use Rattle.openrdson_core.proofs.solids.points_check.Statement.{statement}
 use Rattle.openrdson_core.proofs.solids.points_check.Tie as tie
-use Rattle.openrdson_core.proofs.solids.points_check.Reads as reads
-use Rattle.openrdson_core.proofs.solids.points_check.Lts as lts
 
 returns : tie.Need-returns
 returns c = rw (ne-eqb _ _ (c .if1 .taken))

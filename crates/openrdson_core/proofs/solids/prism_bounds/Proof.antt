@@ -5,9 +5,6 @@ use Rattle.openrdson_core.specs.Answers.{boundedAnswer}
 use borrow.Author.Needs.{needs}
 use Rattle.openrdson_core.proofs.solids.prism_bounds.Statement.{statement}
 use Rattle.openrdson_core.proofs.solids.prism_bounds.Tie as tie
-use Rattle.openrdson_core.proofs.solids.prism_bounds.Reads as reads
-use Rattle.openrdson_core.proofs.solids.prism_bounds.Lts as lts
-use Rattle.openrdson_core.proofs.solids.heights_in_range.Reads as heights-in-range-reads
 
 enum-known-part : tie.Need-enum-known-part
 enum-known-part c = search needs

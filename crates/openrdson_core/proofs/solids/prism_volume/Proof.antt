@@ -5,10 +5,6 @@ use Rattle.openrdson_core.specs.Answers.{measuredAnswer}
 use borrow.Author.Needs.{needs}
 use Rattle.openrdson_core.proofs.solids.prism_volume.Statement.{statement}
 use Rattle.openrdson_core.proofs.solids.prism_volume.Tie as tie
-use Rattle.openrdson_core.proofs.solids.prism_volume.Reads as reads
-use Rattle.openrdson_core.proofs.solids.prism_volume.Lts as lts
-use Rattle.binary64.proofs.abs.Reads as abs-reads
-use Rattle.openrdson_core.proofs.solids.heights_in_range.Reads as heights-in-range-reads
 
 enum-known-part : tie.Need-enum-known-part
 enum-known-part c = search needs

@@ -1,16 +1,11 @@
 -- `are_figures_in` meets its contract: one call a figure. Assumes nothing.
 use native.Mathlib.Omega.{arith}
-use mathlib.Core.Path.{_≡_, sym, _∙_}
-use borrow.Author.Needs.{needs}
+use mathlib.Core.Path.{sym, _∙_}
 use borrow.Author.Tests.{not-true, not-false}
-use lib.ListN.{length-take, length-drop}
 use Rattle.openrdson_core.specs.Tech.{figuresIn}
 use Rattle.lists.proofs.Parts.{part-length}
 use Rattle.openrdson_core.proofs.tech.are_figures_in.Statement.{statement}
 use Rattle.openrdson_core.proofs.tech.are_figures_in.Tie as tie
-use Rattle.openrdson_core.proofs.tech.are_figures_in.Reads as reads
-use Rattle.openrdson_core.proofs.tech.are_figures_in.Lts as lts
-use Rattle.openrdson_core.proofs.tech.is_figure_in.Reads as is-figure-in-reads
 
 shared-slice-read-flag : tie.Need-shared-slice-read-flag
 shared-slice-read-flag c = omega arith

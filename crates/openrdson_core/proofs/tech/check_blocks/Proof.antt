@@ -1,17 +1,10 @@
 -- `check_blocks` meets its contract: a test a row. Assumes nothing.
-use mathlib.Core.Path.{_≡_, sym, _∙_}
+use mathlib.Core.Path.{sym, _∙_}
 use borrow.Author.Needs.{needs}
 use borrow.Author.Tests.{not-true, not-false}
 use Rattle.openrdson_core.specs.Tech.{blocksFault}
 use Rattle.openrdson_core.proofs.tech.check_blocks.Statement.{statement}
 use Rattle.openrdson_core.proofs.tech.check_blocks.Tie as tie
-use Rattle.openrdson_core.proofs.tech.check_blocks.Reads as reads
-use Rattle.openrdson_core.proofs.tech.check_blocks.Lts as lts
-use Rattle.openrdson_core.proofs.layout.is_layer_names.Reads as is-layer-names-reads
-use Rattle.openrdson_core.proofs.maps.is_map.Reads as is-map-reads
-use Rattle.openrdson_core.proofs.tech.is_stack.Reads as is-stack-reads
-use Rattle.openrdson_core.proofs.tech.is_stack_in.Reads as is-stack-in-reads
-use Rattle.openrdson_core.proofs.tech.is_vias.Reads as is-vias-reads
 
 is-layer-names-requires : tie.Need-is-layer-names-requires
 is-layer-names-requires c κs = search needs

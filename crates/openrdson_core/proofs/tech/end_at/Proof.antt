@@ -1,19 +1,15 @@
 -- `end_at` meets its contract. Assumes nothing.
-use Prim.Native.Nat.{ℕ, _+_, _≤_}
+use Prim.Native.Nat.{ℕ, _≤_}
 use native.Mathlib.Omega.{arith}
-use mathlib.Core.Path.{_≡_, refl, sym, ap, _∙_}
+use mathlib.Core.Path.{sym, ap, _∙_}
 use mathlib.Core.Option.{some}
 use borrow.Author.Needs.{needs}
 use Rattle.lists.specs.Lists.{part}
-use Rattle.lists.proofs.Parts.{part-lent}
-use Rattle.openrdson_core.specs.Bytes.{zeros, nameLength, unpad}
-use Rattle.openrdson_core.proofs.BlockLaws.{lent-length, unpad-part}
+use Rattle.lists.proofs.Parts.{part-lent, lent-length}
+use Rattle.openrdson_core.specs.Bytes.{zeros, nameLength}
+use Rattle.openrdson_core.proofs.BlockLaws.{unpad-part}
 use Rattle.openrdson_core.proofs.tech.end_at.Statement.{statement}
 use Rattle.openrdson_core.proofs.tech.end_at.Tie as tie
-use Rattle.openrdson_core.proofs.tech.end_at.Reads as reads
-use Rattle.openrdson_core.proofs.tech.end_at.Lts as lts
-use Rattle.openrdson_core.proofs.bytes.is_zero.Reads as is-zero-reads
-use Rattle.openrdson_core.proofs.bytes.name_length.Reads as name-length-reads
 
 add-c : tie.Need-add-c
 add-c c = omega arith

@@ -1,13 +1,8 @@
 -- `entry_at` meets its contract: one call a figure. Assumes nothing.
 use native.Mathlib.Omega.{arith}
-use mathlib.Core.Path.{_≡_, sym, ap, _∙_}
-use borrow.Author.Needs.{needs}
 use Rattle.lists.proofs.Parts.{part-length}
 use Rattle.openrdson_core.proofs.tech.entry_at.Statement.{statement}
 use Rattle.openrdson_core.proofs.tech.entry_at.Tie as tie
-use Rattle.openrdson_core.proofs.tech.entry_at.Reads as reads
-use Rattle.openrdson_core.proofs.tech.entry_at.Lts as lts
-use Rattle.openrdson_core.proofs.tech.figure_at.Reads as figure-at-reads
 
 shared-slice-read-flag : tie.Need-shared-slice-read-flag
 shared-slice-read-flag c = omega arith

@@ -2,9 +2,6 @@
 use borrow.Author.Needs.{needs}
 use Rattle.openrdson_core.proofs.tech.figure_at.Statement.{statement}
 use Rattle.openrdson_core.proofs.tech.figure_at.Tie as tie
-use Rattle.openrdson_core.proofs.tech.figure_at.Reads as reads
-use Rattle.openrdson_core.proofs.tech.figure_at.Lts as lts
-use Rattle.openrdson_core.proofs.tech.float_at.Reads as float-at-reads
 
 float-at-requires : tie.Need-float-at-requires
 float-at-requires c κs = search needs

@@ -1,9 +1,8 @@
 -- `find_material` meets its contract: conductors, diffusions, then vias. Assumes nothing.
-use Prim.Native.Nat.{ℕ, _+_, _*_, _≤_, _<_}
+use Prim.Native.Nat.{_+_, _<_}
 use native.Mathlib.Omega.{arith}
-use mathlib.Core.Path.{_≡_, refl, sym, ap, _∙_}
-use mathlib.Core.Bool.{true, false}
-use mathlib.Core.Option.{Option, some}
+use mathlib.Core.Path.{_≡_, sym, ap, _∙_}
+use mathlib.Core.Bool.{false}
 use borrow.Author.Needs.{needs}
 use Rattle.openrdson_core.specs.Answers.{rowAnswer}
 use Rattle.openrdson_core.specs.Blocks.{count}
@@ -12,10 +11,6 @@ use Rattle.openrdson_core.specs.declared.blocks.Cell.the-variants.{Name,
 use Rattle.openrdson_core.proofs.BlockLaws.{Counted, counted, row-below}
 use Rattle.openrdson_core.proofs.tech.find_material.Statement.{statement}
 use Rattle.openrdson_core.proofs.tech.find_material.Tie as tie
-use Rattle.openrdson_core.proofs.tech.find_material.Reads as reads
-use Rattle.openrdson_core.proofs.tech.find_material.Lts as lts
-use Rattle.openrdson_core.proofs.blocks.find_row.Reads as find-row-reads
-use Rattle.openrdson_core.proofs.blocks.rows.Reads as rows-reads
 
 find-row-requires : tie.Need-find-row-requires
 find-row-requires c κs = let w1 : Counted Name Figures (c .before .before .before .before .args .conductors .now) = counted Name Figures false (c .before .before .before .before .args .conductors .now) (c .before .before .before .before .pre .0) in let w2 : Counted Name Figures (c .before .before .before .before .args .diffusions .now) = counted Name Figures false (c .before .before .before .before .args .diffusions .now) (c .before .before .before .before .pre .1) in let w3 : Counted Name Ends (c .before .before .before .before .args .vias .now) = counted Name Ends false (c .before .before .before .before .args .vias .now) (c .before .before .before .before .pre .2) in (omega arith, omega arith)

@@ -1,26 +1,21 @@
 -- `find_stack_layer` meets its contract: the row of the name, and its entry. Assumes nothing.
-use Prim.Native.Nat.{ℕ, _+_, _*_, _≤_, _<_}
+use Prim.Native.Nat.{ℕ, _+_, _*_, _<_}
 use native.Mathlib.Omega.{arith}
-use mathlib.Core.Path.{_≡_, refl, sym, ap, _∙_}
-use mathlib.Core.Bool.{true, false}
+use mathlib.Core.Path.{sym, ap, _∙_}
+use mathlib.Core.Bool.{false}
 use mathlib.Core.List.{List}
-use mathlib.Core.Option.{Option, some}
+use mathlib.Core.Option.{Option, some, Option·map}
 use borrow.Author.Needs.{needs}
-use Rattle.lists.specs.Answer.{Answer, given}
+use Rattle.lists.specs.Answer.{given}
 use Rattle.lists.proofs.Fills.{run-room}
-use Rattle.lists.proofs.Parts.{part-lent}
+use Rattle.lists.proofs.Parts.{part-lent, lent-length}
 use Rattle.openrdson_core.specs.Answers.{rowAnswer}
-use Rattle.openrdson_core.specs.Blocks.{count, mapOption}
-use Rattle.openrdson_core.specs.Tech.{StackFigures, figuresOf}
+use Rattle.openrdson_core.specs.Blocks.{count}
+use Rattle.openrdson_core.specs.Tech.{figuresOf}
 use Rattle.openrdson_core.specs.declared.blocks.Cell.the-variants.{Name, Figures}
-use Rattle.openrdson_core.proofs.BlockLaws.{Counted, counted, row-below, lent-length, entry-some, entry-none}
+use Rattle.openrdson_core.proofs.BlockLaws.{Counted, counted, row-below, entry-some, entry-none}
 use Rattle.openrdson_core.proofs.tech.find_stack_layer.Statement.{statement}
 use Rattle.openrdson_core.proofs.tech.find_stack_layer.Tie as tie
-use Rattle.openrdson_core.proofs.tech.find_stack_layer.Reads as reads
-use Rattle.openrdson_core.proofs.tech.find_stack_layer.Lts as lts
-use Rattle.openrdson_core.proofs.blocks.find_row.Reads as find-row-reads
-use Rattle.openrdson_core.proofs.blocks.rows.Reads as rows-reads
-use Rattle.openrdson_core.proofs.tech.entry_at.Reads as entry-at-reads
 
 rows-requires : tie.Need-rows-requires
 rows-requires c κs = let w : Counted Name Figures (c .before .before .args .s .now) = counted Name Figures false (c .before .before .args .s .now) (c .before .before .pre) in omega arith
@@ -62,10 +57,10 @@ entry-at-requires : tie.Need-entry-at-requires
 entry-at-requires c κs = let w : Counted Name Figures (c .before .before .before .before .before .before .before .before .args .s .now) = counted Name Figures false (c .before .before .before .before .before .before .before .before .args .s .now) (c .before .before .before .before .before .before .before .before .pre) in let below : (c .before .before .found .given .0 .0) < count (c .before .before .before .before .before .before .before .before .args .s .now) = row-below (c .before .before .before .before .before .before .before .before .args .s .now) (c .before .before .before .before .before .before .before .before .args .name .now) (c .before .before .found .given .0 .0) (sym (ap rowAnswer (c .before .before .found .given .1)) ∙ c .before .before .before .before .find-row .ensures) in let room = run-room (count (c .before .before .before .before .before .before .before .before .args .s .now)) 17 (c .before .before .found .given .0 .0) below in lent-length (c .before .before .before .before .before .before .before .before .args .s .now) (2 + c .before .before .before .before .before .rows .result * 32 + (c .before .before .found .given .0 .0) * 17) 17 (omega (arith, c .before .before .before .before .before .rows .ensures))
 
 returns : tie.Need-returns
-returns c = ap (λ (o : Option (List ℕ)). given (mapOption figuresOf o)) (entry-none Figures (c .before .before .before .before .before .before .args .s .now) (c .before .before .before .before .before .before .args .name .now) (sym (ap rowAnswer (c .enum-told .given .1)) ∙ c .before .before .find-row .ensures))
+returns c = ap (λ (o : Option (List ℕ)). given (Option·map figuresOf o)) (entry-none Figures (c .before .before .before .before .before .before .args .s .now) (c .before .before .before .before .before .before .args .name .now) (sym (ap rowAnswer (c .enum-told .given .1)) ∙ c .before .before .find-row .ensures))
 
 returns-2 : tie.Need-returns-2
-returns-2 c = c .entry-at .ensures ∙ ap (λ (l : List ℕ). given (some (figuresOf l))) (part-lent (c .before .before .before .before .before .before .before .before .before .args .s .now) (2 + c .before .before .before .before .before .before .rows .result * 32 + (c .before .before .before .found .given .0 .0) * 17) 17) ∙ ap (λ (o : Option (List ℕ)). given (mapOption figuresOf o)) (entry-some Figures (c .before .before .before .before .before .before .before .before .before .args .s .now) (c .before .before .before .before .before .before .before .before .before .args .name .now) (c .before .before .before .found .given .0 .0) (2 + c .before .before .before .before .before .before .rows .result * 32 + (c .before .before .before .found .given .0 .0) * 17) (sym (ap rowAnswer (c .before .before .before .found .given .1)) ∙ c .before .before .before .before .before .find-row .ensures) (ap (λ (k : ℕ). 2 + k * 32 + (c .before .before .before .found .given .0 .0) * 17) (c .before .before .before .before .before .before .rows .ensures)))
+returns-2 c = c .entry-at .ensures ∙ ap (λ (l : List ℕ). given (some (figuresOf l))) (part-lent (c .before .before .before .before .before .before .before .before .before .args .s .now) (2 + c .before .before .before .before .before .before .rows .result * 32 + (c .before .before .before .found .given .0 .0) * 17) 17) ∙ ap (λ (o : Option (List ℕ)). given (Option·map figuresOf o)) (entry-some Figures (c .before .before .before .before .before .before .before .before .before .args .s .now) (c .before .before .before .before .before .before .before .before .before .args .name .now) (c .before .before .before .found .given .0 .0) (2 + c .before .before .before .before .before .before .rows .result * 32 + (c .before .before .before .found .given .0 .0) * 17) (sym (ap rowAnswer (c .before .before .before .found .given .1)) ∙ c .before .before .before .before .before .find-row .ensures) (ap (λ (k : ℕ). 2 + k * 32 + (c .before .before .before .found .given .0 .0) * 17) (c .before .before .before .before .before .before .rows .ensures)))
 
 pub find-stack-layer-spec : {M : Type 1} → statement M
 find-stack-layer-spec =

@@ -5,10 +5,6 @@ use borrow.Author.Needs.{needs}
 use lib.Ieee.{binary64, ofBits}
 use Rattle.openrdson_core.proofs.tech.float_at.Statement.{statement}
 use Rattle.openrdson_core.proofs.tech.float_at.Tie as tie
-use Rattle.openrdson_core.proofs.tech.float_at.Reads as reads
-use Rattle.openrdson_core.proofs.tech.float_at.Lts as lts
-use Rattle.binary64.proofs.from_bits.Reads as from-bits-reads
-use Rattle.openrdson_core.proofs.bytes.little.Reads as little-reads
 
 little-requires : tie.Need-little-requires
 little-requires c κs = search needs

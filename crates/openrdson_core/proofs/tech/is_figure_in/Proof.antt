@@ -4,10 +4,6 @@ use borrow.Author.Needs.{needs}
 use Rattle.binary64.specs.Numbers.{atMost}
 use Rattle.openrdson_core.proofs.tech.is_figure_in.Statement.{statement}
 use Rattle.openrdson_core.proofs.tech.is_figure_in.Tie as tie
-use Rattle.openrdson_core.proofs.tech.is_figure_in.Reads as reads
-use Rattle.openrdson_core.proofs.tech.is_figure_in.Lts as lts
-use Rattle.binary64.proofs.figure_in_range.Reads as figure-in-range-reads
-use Rattle.openrdson_core.proofs.tech.float_at.Reads as float-at-reads
 
 returns : tie.Need-returns
 returns c = rw (c .if1 .taken)

@@ -1,23 +1,19 @@
 -- `is_stack_in` meets its contract: a scan, entry by entry. Assumes nothing.
 use Prim.Native.Nat.{ℕ, _+_, _*_, _-_, _≤_}
 use native.Mathlib.Omega.{arith}
-use borrow.Author.Needs.{needs}
 use mathlib.Core.Path.{_≡_, refl, sym, ap, _∙_}
 use mathlib.Core.Bool.{true, false}
 use borrow.Author.Tests.{not-true, not-false}
+use Rattle.lists.proofs.Parts.{run-lent, lent-length}
 use Rattle.lists.specs.Lists.{part, allBelow}
 use Rattle.lists.proofs.Scans.{all-start, all-more, all-fails}
-use Rattle.lists.proofs.Fills.{run-room, run-first, run-next}
+use Rattle.lists.proofs.Fills.{run-room}
 use Rattle.openrdson_core.specs.Blocks.{count}
 use Rattle.openrdson_core.specs.Tech.{figuresIn, stackIn}
 use Rattle.openrdson_core.specs.declared.blocks.Cell.the-variants.{Name, Figures}
-use Rattle.openrdson_core.proofs.BlockLaws.{Counted, counted, cell-lent, lent-length}
+use Rattle.openrdson_core.proofs.BlockLaws.{Counted, counted}
 use Rattle.openrdson_core.proofs.tech.is_stack_in.Statement.{statement}
 use Rattle.openrdson_core.proofs.tech.is_stack_in.Tie as tie
-use Rattle.openrdson_core.proofs.tech.is_stack_in.Reads as reads
-use Rattle.openrdson_core.proofs.tech.is_stack_in.Lts as lts
-use Rattle.openrdson_core.proofs.blocks.rows.Reads as rows-reads
-use Rattle.openrdson_core.proofs.tech.are_figures_in.Reads as are-figures-in-reads
 
 abbrev Inv-loop : tie.InvT-loop
 Inv-loop s n at₀ i₀ at i = (i ≤ n) × (at ≡ 2 + count s * 32 + i * 17) × (allBelow i (λ k. figuresIn (part (2 + count s * 32 + k * 17) 17 s)) ≡ true)
@@ -54,7 +50,7 @@ are-figures-in-requires c κs = let w : Counted Name Figures (c .before .before 
 
 returns : tie.Need-returns Inv-loop μ-loop
 unfolding stackIn
-returns c = sym (all-fails (λ k. figuresIn (part (2 + count (c .before .before .before .before .before .before .before .args .s .now) * 32 + k * 17) 17 (c .before .before .before .before .before .before .before .args .s .now))) (count (c .before .before .before .before .before .before .before .args .s .now)) (c .before .before .before .before .loop .i) (omega (arith, c .before .before .before .before .before .rows .ensures, c .before .before .before .loop-test .taken)) (ap figuresIn (sym (cell-lent (c .before .before .before .before .before .before .before .args .s .now) (2 + count (c .before .before .before .before .before .before .before .args .s .now) * 32) (c .before .before .before .before .loop .i) 17 (c .before .before .before .before .loop .inv .1) refl)) ∙ sym (c .before .are-figures-in .ensures) ∙ not-true _ (c .if1 .taken)))
+returns c = sym (all-fails (λ k. figuresIn (part (2 + count (c .before .before .before .before .before .before .before .args .s .now) * 32 + k * 17) 17 (c .before .before .before .before .before .before .before .args .s .now))) (count (c .before .before .before .before .before .before .before .args .s .now)) (c .before .before .before .before .loop .i) (omega (arith, c .before .before .before .before .before .rows .ensures, c .before .before .before .loop-test .taken)) (ap figuresIn (sym (run-lent (c .before .before .before .before .before .before .before .args .s .now) (2 + count (c .before .before .before .before .before .before .before .args .s .now) * 32) (c .before .before .before .before .loop .i) 17 (c .before .before .before .before .loop .inv .1) refl)) ∙ sym (c .before .are-figures-in .ensures) ∙ not-true _ (c .if1 .taken)))
 
 add-at-2 : tie.Need-add-at-2 Inv-loop μ-loop
 add-at-2 c = let w : Counted Name Figures (c .before .before .before .before .before .before .before .args .s .now) = counted Name Figures false (c .before .before .before .before .before .before .before .args .s .now) (c .before .before .before .before .before .before .before .pre) in omega (arith, c .before .before .before .before .before .rows .ensures, run-room (c .before .before .before .before .before .rows .result) 17 (c .before .before .before .before .loop .i) (c .before .before .before .loop-test .taken), c .before .before .before .before .loop .inv .1)
@@ -66,7 +62,7 @@ loop-less : tie.Need-loop-less Inv-loop μ-loop
 loop-less c = omega arith
 
 loop-again : tie.Need-loop-again Inv-loop μ-loop
-loop-again c = (omega arith, omega (arith, c .before .before .before .before .loop .inv .1), all-more (λ k. figuresIn (part (2 + count (c .before .before .before .before .before .before .before .args .s .now) * 32 + k * 17) 17 (c .before .before .before .before .before .before .before .args .s .now))) (c .before .before .before .before .loop .i) (c .before .before .before .before .loop .inv .2) (ap figuresIn (sym (cell-lent (c .before .before .before .before .before .before .before .args .s .now) (2 + count (c .before .before .before .before .before .before .before .args .s .now) * 32) (c .before .before .before .before .loop .i) 17 (c .before .before .before .before .loop .inv .1) refl)) ∙ sym (c .before .are-figures-in .ensures) ∙ not-false _ (c .if1 .left)))
+loop-again c = (omega arith, omega (arith, c .before .before .before .before .loop .inv .1), all-more (λ k. figuresIn (part (2 + count (c .before .before .before .before .before .before .before .args .s .now) * 32 + k * 17) 17 (c .before .before .before .before .before .before .before .args .s .now))) (c .before .before .before .before .loop .i) (c .before .before .before .before .loop .inv .2) (ap figuresIn (sym (run-lent (c .before .before .before .before .before .before .before .args .s .now) (2 + count (c .before .before .before .before .before .before .before .args .s .now) * 32) (c .before .before .before .before .loop .i) 17 (c .before .before .before .before .loop .inv .1) refl)) ∙ sym (c .before .are-figures-in .ensures) ∙ not-false _ (c .if1 .left)))
 
 returns-2 : tie.Need-returns-2 Inv-loop μ-loop
 unfolding stackIn

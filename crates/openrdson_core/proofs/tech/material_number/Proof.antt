@@ -1,15 +1,10 @@
 -- `material_number` meets its contract: 14 block by block, then the search. Assumes nothing.
-use mathlib.Core.Path.{_≡_, sym, ap, _∙_}
+use mathlib.Core.Path.{sym, _∙_}
 use borrow.Author.Needs.{needs}
 use borrow.Author.Tests.{not-true, not-false}
 use Rattle.openrdson_core.specs.Tech.{materialNumber}
 use Rattle.openrdson_core.proofs.tech.material_number.Statement.{statement}
 use Rattle.openrdson_core.proofs.tech.material_number.Tie as tie
-use Rattle.openrdson_core.proofs.tech.material_number.Reads as reads
-use Rattle.openrdson_core.proofs.tech.material_number.Lts as lts
-use Rattle.openrdson_core.proofs.tech.find_material.Reads as find-material-reads
-use Rattle.openrdson_core.proofs.tech.is_stack.Reads as is-stack-reads
-use Rattle.openrdson_core.proofs.tech.is_vias.Reads as is-vias-reads
 
 is-stack-requires : tie.Need-is-stack-requires
 is-stack-requires c κs = search needs

@@ -1,15 +1,10 @@
 -- `stack_layer` meets its contract: 14, 1, then the search. Assumes nothing.
-use mathlib.Core.Path.{_≡_, sym, _∙_}
+use mathlib.Core.Path.{sym, _∙_}
 use borrow.Author.Needs.{needs}
 use borrow.Author.Tests.{not-true, not-false}
 use Rattle.openrdson_core.specs.Tech.{stackLayer}
 use Rattle.openrdson_core.proofs.tech.stack_layer.Statement.{statement}
 use Rattle.openrdson_core.proofs.tech.stack_layer.Tie as tie
-use Rattle.openrdson_core.proofs.tech.stack_layer.Reads as reads
-use Rattle.openrdson_core.proofs.tech.stack_layer.Lts as lts
-use Rattle.openrdson_core.proofs.tech.find_stack_layer.Reads as find-stack-layer-reads
-use Rattle.openrdson_core.proofs.tech.is_stack.Reads as is-stack-reads
-use Rattle.openrdson_core.proofs.tech.is_stack_in.Reads as is-stack-in-reads
 
 is-stack-requires : tie.Need-is-stack-requires
 is-stack-requires c κs = search needs

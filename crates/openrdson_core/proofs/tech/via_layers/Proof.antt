@@ -1,14 +1,10 @@
 -- `via_layers` meets its contract: 14, then the search. Assumes nothing.
-use mathlib.Core.Path.{_≡_, sym, _∙_}
+use mathlib.Core.Path.{sym, _∙_}
 use borrow.Author.Needs.{needs}
 use borrow.Author.Tests.{not-true, not-false}
 use Rattle.openrdson_core.specs.Tech.{viaLayers}
 use Rattle.openrdson_core.proofs.tech.via_layers.Statement.{statement}
 use Rattle.openrdson_core.proofs.tech.via_layers.Tie as tie
-use Rattle.openrdson_core.proofs.tech.via_layers.Reads as reads
-use Rattle.openrdson_core.proofs.tech.via_layers.Lts as lts
-use Rattle.openrdson_core.proofs.tech.find_via.Reads as find-via-reads
-use Rattle.openrdson_core.proofs.tech.is_vias.Reads as is-vias-reads
 
 is-vias-requires : tie.Need-is-vias-requires
 is-vias-requires c κs = search needs

@@ -1,18 +1,8 @@
 -- `bits` is safe: a float that does not differ from itself is no NaN. Assumes nothing.
-use mathlib.Core.Path.{_≡_, sym, _∙_, subst}
-use mathlib.Core.Bool.{false, not}
-use lib.Dec.{T}
-use lib.Ieee.{Float, nan, inf, fin, ne, isNan}
-use lib.Ieee.Compare.{nan-differs}
 use borrow.Author.Needs.{needs}
+use Rattle.binary64.proofs.Values.{no-nan}
 use Rattle.records.proofs.words.bits.Statement.{statement}
 use Rattle.records.proofs.words.bits.Tie as tie
-
-no-nan : (x : Float) → ne x x ≡ false → T (not (isNan x))
-unfolding isNan
-no-nan nan h = absurd (subst T (sym nan-differs ∙ h) tt)
-no-nan (inf s) h = tt
-no-nan (fin s m e) h = tt
 
 returns : tie.Need-returns
 returns c = search needs

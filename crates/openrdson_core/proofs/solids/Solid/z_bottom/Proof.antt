@@ -4,8 +4,6 @@ use Rattle.openrdson_core.specs.Solids.{zBottom}
 use borrow.Author.Needs.{needs}
 use Rattle.openrdson_core.proofs.solids.Solid.z_bottom.Statement.{statement}
 use Rattle.openrdson_core.proofs.solids.Solid.z_bottom.Tie as tie
-use Rattle.openrdson_core.proofs.solids.Solid.z_bottom.Reads as reads
-use Rattle.openrdson_core.proofs.solids.Solid.z_bottom.Lts as lts
 
 enum-known-self : tie.Need-enum-known-self
 enum-known-self c = search needs

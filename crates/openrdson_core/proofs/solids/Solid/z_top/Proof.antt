@@ -4,8 +4,6 @@ use Rattle.openrdson_core.specs.Solids.{zTop}
 use borrow.Author.Needs.{needs}
 use Rattle.openrdson_core.proofs.solids.Solid.z_top.Statement.{statement}
 use Rattle.openrdson_core.proofs.solids.Solid.z_top.Tie as tie
-use Rattle.openrdson_core.proofs.solids.Solid.z_top.Reads as reads
-use Rattle.openrdson_core.proofs.solids.Solid.z_top.Lts as lts
 
 enum-known-self : tie.Need-enum-known-self
 enum-known-self c = search needs

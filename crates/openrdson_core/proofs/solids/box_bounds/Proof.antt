@@ -1,15 +1,14 @@
--- `box_check` meets its contract. Assumes nothing.
+-- `box_bounds` meets its contract: the lists, then its six numbers. Assumes nothing.
 use mathlib.Core.Path.{sym, ap, _∙_}
-use mathlib.Core.Bool.{Bool, _&&_}
+use mathlib.Core.Bool.{_&&_}
 use borrow.Author.Tests.{not-true, not-false}
 use Rattle.openrdson_core.specs.Answers.{checkAnswer}
 use Rattle.openrdson_core.specs.Points.{pointIn}
-use Rattle.openrdson_core.specs.declared.points.Point.{Point}
 use borrow.Author.Needs.{needs}
-use Rattle.openrdson_core.proofs.solids.box_check.Statement.{statement}
-use Rattle.openrdson_core.proofs.solids.box_check.Tie as tie
-use Rattle.openrdson_core.proofs.solids.box_check.Reads as reads
-use Rattle.openrdson_core.proofs.solids.box_check.Lts as lts
+use Rattle.openrdson_core.proofs.solids.box_bounds.Statement.{statement}
+use Rattle.openrdson_core.proofs.solids.box_bounds.Tie as tie
+use Rattle.openrdson_core.proofs.solids.box_bounds.Reads as reads
+use Rattle.openrdson_core.proofs.solids.box_bounds.Lts as lts
 use Rattle.openrdson_core.proofs.points.Point.is_in_range.Reads as is-in-range-reads
 use Rattle.openrdson_core.proofs.points.Point.new.Reads as new-reads
 use Rattle.openrdson_core.proofs.solids.heights_in_range.Reads as heights-in-range-reads
@@ -48,8 +47,8 @@ returns-2 c = rw (sym (c .before .before .before .points-check .ensures) ∙ ap 
 returns-3 : tie.Need-returns-3
 returns-3 c = rw (sym (c .before .before .before .before .before .before .before .before .points-check .ensures) ∙ ap checkAnswer (c .before .before .before .before .before .before .enum-told .given .1), ← c .before .heights-in-range .ensures, ← ap pointIn (c .before .before .before .before .before .new .ensures), ← ap pointIn (c .before .before .before .before .new2 .ensures), ← c .before .before .before .is-in-range .ensures, ← c .before .before .is-in-range2 .ensures, not-false (c .before .before .before .is-in-range .result && c .before .before .is-in-range2 .result && c .before .heights-in-range .result) (c .if1 .left))
 
-pub box-check-spec : {M : Type 1} → statement M
-box-check-spec =
+pub box-bounds-spec : {M : Type 1} → statement M
+box-bounds-spec =
     tie.close
     (tie.spec
     points-check-requires
