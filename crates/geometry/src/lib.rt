@@ -1,0 +1,15 @@
+// Extruding polygons into boxes and prisms, the region list, and its volume (the original's geometry crate).
+mod extrude;
+mod regions;
+mod volume;
+
+pub use extrude::Extruded;
+pub use extrude::extrude_box;
+pub use extrude::extrude_polygon;
+pub use extrude::extrude_ring;
+pub use regions::Built;
+pub use regions::LARGEST_MATERIAL;
+pub use regions::NO_POLYGON;
+pub use regions::are_regions_even;
+pub use regions::region_at;
+pub use volume::total_volume;
