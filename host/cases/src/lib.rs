@@ -4,9 +4,11 @@ pub mod call;
 pub mod case;
 pub mod expected;
 pub mod paper;
+pub mod regions;
 
 mod boxes;
 mod damage;
+mod extrusions;
 mod lookups;
 mod names;
 mod numbers;
@@ -16,3 +18,4 @@ mod rings;
 mod roots;
 mod rows;
 mod solids;
+mod totals;

@@ -43,13 +43,21 @@ fn run(args: &Args, calls: Vec<Call>) -> Vec<Tally> {
     loop {
         let to = if args.seconds.is_some() { from + ROUND } else { args.cases };
         for tally in &mut tallies {
-            let weight = if tally.call == Call::Sqrt { 12 } else { 1 };
-            tally.run(args.seed, weight * from..weight * to);
+            tally.run(args.seed, share(tally.call, from)..share(tally.call, to));
         }
         match args.seconds {
             Some(seconds) if begin.elapsed() < seconds => from = to,
             _ => return tallies,
         }
+    }
+}
+
+/// So many of the cases that a call gets.
+fn share(call: Call, cases: u64) -> u64 {
+    match call {
+        Call::Sqrt => 12 * cases,
+        Call::ExtrudePolygon | Call::ExtrudeBox | Call::TotalVolume => cases / 5,
+        _ => cases,
     }
 }
 
