@@ -10,19 +10,19 @@ use std::hint::black_box;
 const ROUNDS: usize = 100;
 
 /// The same layers in the form of each side: so many rows in each of the six blocks.
-struct Layers {
-    layout: LayoutIR,
-    map: LayerMap,
-    stack: TechStack,
+pub struct Layers {
+    pub layout: LayoutIR,
+    pub map: LayerMap,
+    pub stack: TechStack,
     /// Layer names, conducting, via, conductors, diffusions, vias.
-    blocks: [Vec<u8>; 6],
-    numbers: Vec<i16>,
+    pub blocks: [Vec<u8>; 6],
+    pub numbers: Vec<i16>,
     logical: Vec<String>,
     conductors: Vec<String>,
     vias: Vec<String>,
 }
 
-fn layers(n: usize) -> Layers {
+pub fn layers(n: usize) -> Layers {
     let named = |prefix: &str| -> Vec<String> { (0..n).map(|i| format!("{prefix}{i}")).collect() };
     let (logical, conductors) = (named("net_M"), named("M"));
     let (logical_vias, vias, diffusions) = (named("net_VIA"), named("VIA"), named("DIFF"));

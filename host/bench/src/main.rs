@@ -2,6 +2,8 @@
 mod blocks;
 mod inputs;
 mod regions;
+#[cfg(feature = "stack")]
+mod stacks;
 
 use inputs::Ring;
 use oracle::core::geometry::{is_axis_aligned_rectangle, polygon_signed_area, Bbox};
@@ -19,6 +21,8 @@ fn main() {
     bounding_box("bounding box, circle of 512 points", &circle);
     roots("square root, of a million (Rust: hardware)", &inputs::values(1_000_000));
     regions::rows();
+    #[cfg(feature = "stack")]
+    stacks::rows();
     blocks::rows();
 }
 

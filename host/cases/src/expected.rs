@@ -2,6 +2,7 @@
 //! blocks it is document 01's answer, held to the Rust's.
 mod lookups;
 mod regions;
+pub mod stacks;
 
 use crate::call::Call::*;
 use crate::case::{Answer, Case};

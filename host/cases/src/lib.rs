@@ -5,6 +5,7 @@ pub mod case;
 pub mod expected;
 pub mod paper;
 pub mod regions;
+pub mod stacks;
 
 mod boxes;
 mod damage;

@@ -1,6 +1,7 @@
 //! Document 01's refusals, transcribed: the first that applies, or 0. Calls on name blocks are answered whole.
 pub mod blocks;
 mod regions;
+pub mod stacks;
 
 use crate::call::Call::*;
 use crate::case::Case;

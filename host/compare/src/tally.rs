@@ -106,7 +106,7 @@ impl fmt::Display for Shown<'_> {
 }
 
 /// Past 1,024 entries only the length is shown.
-fn show_list(f: &mut fmt::Formatter, name: &str, list: &[f64]) -> fmt::Result {
+pub fn show_list(f: &mut fmt::Formatter, name: &str, list: &[f64]) -> fmt::Result {
     write!(f, "  {name}: {}:", list.len())?;
     if list.len() <= 1024 {
         for x in list {
@@ -117,7 +117,7 @@ fn show_list(f: &mut fmt::Formatter, name: &str, list: &[f64]) -> fmt::Result {
 }
 
 /// In rows of 32 bytes; past 4,096 only the length is shown.
-fn show_bytes(f: &mut fmt::Formatter, bytes: &[u8]) -> fmt::Result {
+pub fn show_bytes(f: &mut fmt::Formatter, bytes: &[u8]) -> fmt::Result {
     writeln!(f, "  lent: {} bytes", bytes.len())?;
     for row in bytes.chunks(32).take_while(|_| bytes.len() <= 4096) {
         let digits: String = row.iter().map(|byte| format!("{byte:02x}")).collect();

@@ -3,6 +3,8 @@ pub mod exports;
 mod lookups;
 mod outputs;
 mod regions;
+#[cfg(feature = "stack")]
+pub mod stacks;
 
 use cases::call::Call::*;
 use cases::case::{Answer, Case};
