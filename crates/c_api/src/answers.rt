@@ -30,7 +30,7 @@ pub fn give_check(answer: Check) -> u32
     }
 }
 
-// A length, an area or a volume.
+// An area or a volume.
 pub fn give_number(answer: Measured, out: &mut f64) -> u32
     ensures { λ r. ⌜ Given (measuredAnswer answer) r (now (out .entry)) (now (out .exit)) ⌝ }
 {

@@ -2,9 +2,10 @@
 use crate::{alone, row, Effort};
 use cases::blocks::{Layer, Rows, Via};
 use oracle::core::layout::LayoutIR;
-use oracle::core::tech::{Conductor, Diffusion, LayerMap, TechStack};
+use oracle::core::tech::{self, Conductor, Diffusion, LayerMap, TechStack};
 use oracle::geometry::{assemble_stack, reach};
 use rattle::exports::*;
+use std::collections::BTreeMap;
 use std::hint::black_box;
 
 const ROUNDS: usize = 100;
@@ -22,53 +23,61 @@ pub struct Layers {
     vias: Vec<String>,
 }
 
+fn named(prefix: &str, n: usize) -> Vec<String> {
+    (0..n).map(|i| format!("{prefix}{i}")).collect()
+}
+
+fn bytes(name: &String) -> Vec<u8> {
+    name.clone().into_bytes()
+}
+
+/// The height and the thickness of layer i.
+fn figures(i: usize) -> [Option<f64>; 2] {
+    [Some(i as f64 * 1e-6), Some(0.5e-6)]
+}
+
 pub fn layers(n: usize) -> Layers {
-    let named = |prefix: &str| -> Vec<String> { (0..n).map(|i| format!("{prefix}{i}")).collect() };
-    let (logical, conductors) = (named("net_M"), named("M"));
-    let (logical_vias, vias, diffusions) = (named("net_VIA"), named("VIA"), named("DIFF"));
+    let (logical, logical_vias) = (named("net_M", n), named("net_VIA", n));
+    let stack = stack(n);
+    let conductors: Vec<String> = stack.conductors.iter().map(|layer| layer.name.clone()).collect();
+    let vias: Vec<String> = stack.vias.iter().map(|via| via.name.clone()).collect();
     let numbers: Vec<i16> = (0..n as i16).map(|i| 7 * i - 100).collect();
-    let (bottom, top) = (|i: usize| conductors[i].clone(), |i: usize| conductors[(i + 1) % n].clone());
-    let figures = |i: usize| (Some(i as f64 * 1e-6), Some(0.5e-6));
-    let bytes = |name: &String| name.clone().into_bytes();
     let pairs = |keys: &[String], values: &[String]| keys.iter().cloned().zip(values.iter().cloned()).collect();
-    let stacked = |names: &[String]| {
-        let row = |(i, name)| Layer { name: bytes(name), height: figures(i).0, thickness: figures(i).1 };
-        Rows::Stack(names.iter().enumerate().map(row).collect()).bytes()
-    };
-    let mapped = |keys: &[String], values: &[String]| {
-        Rows::Map(keys.iter().map(bytes).zip(values.iter().map(bytes)).collect()).bytes()
-    };
-    let via = |(i, name)| Via { name: bytes(name), bottom: Some(bytes(&bottom(i))), top: Some(bytes(&top(i))) };
-    let blocks = [
-        Rows::LayerNames(numbers.iter().copied().zip(logical.iter().map(bytes)).collect()).bytes(),
-        mapped(&logical, &conductors),
-        mapped(&logical_vias, &vias),
-        stacked(&conductors),
-        stacked(&diffusions),
-        Rows::Vias(vias.iter().enumerate().map(via).collect()).bytes(),
-    ];
+    let layer_names = numbers.iter().copied().zip(logical.iter().cloned()).collect();
+    let map = LayerMap { conducting: pairs(&logical, &conductors), via: pairs(&logical_vias, &vias) };
+    let layout = LayoutIR { layer_names, ..LayoutIR::default() };
+    let blocks = blocks(&layout, &map, &stack);
+    Layers { layout, map, stack, blocks, numbers, logical, conductors, vias }
+}
+
+/// Via i goes from conductor i to the next.
+fn stack(n: usize) -> TechStack {
+    let (conductors, diffusions, vias) = (named("M", n), named("DIFF", n), named("VIA", n));
     let mut stack = TechStack::default();
     for i in 0..n {
-        let (height, thickness) = figures(i);
+        let [height, thickness] = figures(i);
+        let [bottom_layer, top_layer] = [i, (i + 1) % n].map(|layer| Some(conductors[layer].clone()));
         stack.conductors.push(Conductor { name: conductors[i].clone(), height, thickness, ..Conductor::default() });
         stack.diffusions.push(Diffusion { name: diffusions[i].clone(), height, thickness, ..Diffusion::default() });
-        let (bottom_layer, top_layer) = (Some(bottom(i)), Some(top(i)));
-        let via = oracle::core::tech::Via { name: vias[i].clone(), bottom_layer, top_layer, ..Default::default() };
-        stack.vias.push(via);
+        stack.vias.push(tech::Via { name: vias[i].clone(), bottom_layer, top_layer, ..tech::Via::default() });
     }
-    Layers {
-        layout: LayoutIR {
-            layer_names: numbers.iter().copied().zip(logical.iter().cloned()).collect(),
-            ..LayoutIR::default()
-        },
-        map: LayerMap { conducting: pairs(&logical, &conductors), via: pairs(&logical_vias, &vias) },
-        stack,
-        blocks,
-        numbers,
-        logical,
-        conductors,
-        vias,
-    }
+    stack
+}
+
+fn blocks(layout: &LayoutIR, map: &LayerMap, stack: &TechStack) -> [Vec<u8>; 6] {
+    let mapped = |map: &BTreeMap<String, String>| Rows::Map(map.iter().map(|(k, v)| (bytes(k), bytes(v))).collect());
+    let layer = |name: &String, height, thickness| Layer { name: bytes(name), height, thickness };
+    let end = |name: &Option<String>| name.as_ref().map(bytes);
+    let via = |via: &tech::Via| Via { name: bytes(&via.name), bottom: end(&via.bottom_layer), top: end(&via.top_layer) };
+    let rows = [
+        Rows::LayerNames(layout.layer_names.iter().map(|(number, name)| (*number, bytes(name))).collect()),
+        mapped(&map.conducting),
+        mapped(&map.via),
+        Rows::Stack(stack.conductors.iter().map(|c| layer(&c.name, c.height, c.thickness)).collect()),
+        Rows::Stack(stack.diffusions.iter().map(|d| layer(&d.name, d.height, d.thickness)).collect()),
+        Rows::Vias(stack.vias.iter().map(via).collect()),
+    ];
+    rows.map(|rows| rows.bytes())
 }
 
 pub fn rows() {

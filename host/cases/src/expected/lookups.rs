@@ -38,23 +38,7 @@ fn agrees(case: &Case, blocks: &[&Rows], values: &[u64]) -> Option<bool> {
     }
     let name = std::str::from_utf8(case.name()).ok()?;
     match case.call {
-        LookUp | PhysicalName | CopyPhysicalName => {
-            let map = LayerMap { conducting: map(blocks[0])?, via: map(blocks[1])? };
-            let physical = map.conducting.get(name).or_else(|| map.via.get(name));
-            if case.call == LookUp {
-                return Some(values[0] == physical.is_some() as u64);
-            }
-            if case.call == CopyPhysicalName {
-                return Some(*values == copied(case, physical).values);
-            }
-            let block = match (map.conducting.get(name), physical) {
-                (Some(_), _) => 1,
-                (None, Some(_)) => 2,
-                (None, None) => 0,
-            };
-            let said = if block == 0 { None } else { part(case, block - 1, &values[1..3]) };
-            Some(values[0] == block as u64 && said == physical.map(String::as_bytes))
-        }
+        LookUp | PhysicalName | CopyPhysicalName => named(case, blocks, name, values),
         StackLayer => {
             let stack = stack(&[blocks[0], blocks[0]])?;
             let conductor = stack.conductor(name).map(|layer| (layer.height, layer.thickness));
@@ -76,6 +60,25 @@ fn agrees(case: &Case, blocks: &[&Rows], values: &[u64]) -> Option<bool> {
         }
         _ => Some(values[0] == reach::is_marker(name) as u64),
     }
+}
+
+/// The lookup in the two maps.
+fn named(case: &Case, blocks: &[&Rows], name: &str, values: &[u64]) -> Option<bool> {
+    let map = LayerMap { conducting: map(blocks[0])?, via: map(blocks[1])? };
+    let physical = map.conducting.get(name).or_else(|| map.via.get(name));
+    if case.call == LookUp {
+        return Some(values[0] == physical.is_some() as u64);
+    }
+    if case.call == CopyPhysicalName {
+        return Some(*values == copied(case, physical).values);
+    }
+    let block = match (map.conducting.get(name), physical) {
+        (Some(_), _) => 1,
+        (None, Some(_)) => 2,
+        (None, None) => 0,
+    };
+    let said = if block == 0 { None } else { part(case, block - 1, &values[1..3]) };
+    Some(values[0] == block as u64 && said == physical.map(String::as_bytes))
 }
 
 /// The copy of a name that may be absent.
