@@ -3,3 +3,4 @@ pub mod Same
 pub mod Lookups
 pub mod SolidCalls
 pub mod Copies
+pub mod Rows

@@ -1,3 +1,4 @@
 -- What an exported call gives back.
 pub mod Given
 pub mod Lookups
+pub mod Regions

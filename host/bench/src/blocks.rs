@@ -11,13 +11,13 @@ use std::hint::black_box;
 const ROUNDS: usize = 100;
 
 /// The same layers in the form of each side: so many rows in each of the six blocks.
-struct Layers {
-    layout: LayoutIR,
-    map: LayerMap,
-    stack: TechStack,
+pub struct Layers {
+    pub layout: LayoutIR,
+    pub map: LayerMap,
+    pub stack: TechStack,
     /// Layer names, conducting, via, conductors, diffusions, vias.
-    blocks: [Vec<u8>; 6],
-    numbers: Vec<i16>,
+    pub blocks: [Vec<u8>; 6],
+    pub numbers: Vec<i16>,
     logical: Vec<String>,
     conductors: Vec<String>,
     vias: Vec<String>,
@@ -36,7 +36,7 @@ fn figures(i: usize) -> [Option<f64>; 2] {
     [Some(i as f64 * 1e-6), Some(0.5e-6)]
 }
 
-fn layers(n: usize) -> Layers {
+pub fn layers(n: usize) -> Layers {
     let (logical, logical_vias) = (named("net_M", n), named("net_VIA", n));
     let stack = stack(n);
     let conductors: Vec<String> = stack.conductors.iter().map(|layer| layer.name.clone()).collect();

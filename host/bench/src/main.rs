@@ -1,6 +1,9 @@
 //! Times of the unchanged Rust and of Rattle on the same inputs, in turns; the best of many. Not a test.
 mod blocks;
 mod inputs;
+mod regions;
+#[cfg(feature = "stack")]
+mod stacks;
 
 use inputs::Ring;
 use oracle::core::geometry::{is_axis_aligned_rectangle, polygon_signed_area, Bbox};
@@ -17,6 +20,9 @@ fn main() {
     rectangle("rectangle, 512 points on four corners", &corners);
     bounding_box("bounding box, circle of 512 points", &circle);
     roots("square root, of a million (Rust: hardware)", &inputs::values(1_000_000));
+    regions::rows();
+    #[cfg(feature = "stack")]
+    stacks::rows();
     blocks::rows();
 }
 

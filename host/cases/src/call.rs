@@ -44,11 +44,14 @@ pub enum Call {
     BoxRegionVolume,
     PrismRegionVolume,
     CopyPhysicalName,
+    ExtrudePolygon,
+    ExtrudeBox,
+    TotalVolume,
 }
 
 use Call::*;
 
-pub const CALLS: [Call; 39] = [
+pub const CALLS: [Call; 42] = [
     PolygonSignedArea, PolygonArea, IsCcw, IsAxisAlignedRectangle, BboxFromPoints,
     BoxVolume, PrismVolume, BoxFootprintBbox, PrismFootprintBbox,
     Sqrt, Abs, CeilCapped, NearestCapped,
@@ -57,6 +60,7 @@ pub const CALLS: [Call; 39] = [
     BboxEmpty, BboxIsEmpty, BboxExtendPoint, BboxExtend, BboxUnion, BboxWidth, BboxHeight, BboxCenter,
     BoxZBottom, BoxZTop, PrismZBottom, PrismZTop, BoxRegionVolume, PrismRegionVolume,
     CopyPhysicalName,
+    ExtrudePolygon, ExtrudeBox, TotalVolume,
 ];
 
 /// The calls that are recorded: those on numbers, and those on name blocks and names.
@@ -67,8 +71,10 @@ pub const RECORDED_BLOCKS: std::ops::Range<usize> = 13..21;
 #[derive(Clone, Copy, PartialEq)]
 pub enum Output {
     Float,
-    /// One byte.
+    /// One byte, 0 or 1.
     Truth,
+    /// One byte.
+    Kind,
     /// A u32.
     Number,
     /// Eight bytes.
@@ -122,6 +128,9 @@ impl Call {
             BoxRegionVolume => "box_region_volume",
             PrismRegionVolume => "prism_region_volume",
             CopyPhysicalName => "copy_physical_name",
+            ExtrudePolygon => "extrude_polygon",
+            ExtrudeBox => "extrude_box",
+            TotalVolume => "total_volume",
         }
     }
 
@@ -156,6 +165,9 @@ impl Call {
             PolygonSignedArea | PolygonArea | IsCcw | IsAxisAlignedRectangle | BboxFromPoints => &[16, 2, 1],
             BoxVolume | BoxFootprintBbox | BoxRegionVolume => &[16, 2, 1],
             PrismVolume | PrismFootprintBbox | PrismRegionVolume => &[16, 15, 2, 1],
+            ExtrudePolygon => &[16, 2, 1, 15],
+            ExtrudeBox => &[1, 15],
+            TotalVolume => &[16, 2, 15, 1],
             CheckBlocks | StackLayer => &[14, 1],
             LookUp | PhysicalName | LayerName | ViaLayers | MaterialNumber => &[14],
             _ => &[],
@@ -171,6 +183,8 @@ impl Call {
             MaterialNumber => &["none", "conductor", "diffusion", "via"],
             call if call.gives() == [Output::Truth] => &["false", "true"],
             StackLayer | ViaLayers => &["none", "found"],
+            ExtrudePolygon => &["box", "prism"],
+            TotalVolume => &["no region", "regions"],
             _ => &[],
         }
     }
@@ -193,6 +207,10 @@ impl Call {
             StackLayer => &[Truth, Truth, Float, Truth, Float],
             ViaLayers => &[Truth, Whole, Whole, Whole, Whole],
             MaterialNumber => &[Number],
+            // A row of a region list.
+            ExtrudePolygon | ExtrudeBox => {
+                &[Kind, Float, Float, Float, Float, Float, Float, Number, Number, Number, Number, Number]
+            }
             _ => &[Float],
         }
     }

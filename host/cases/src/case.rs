@@ -3,7 +3,8 @@ use crate::blocks::Lent;
 use crate::call::Call;
 use crate::call::Call::*;
 use crate::random::Random;
-use crate::{boxes, lookups, numbers, rings, roots, solids};
+use crate::regions::Regions;
+use crate::{boxes, extrusions, lookups, numbers, rings, roots, solids, totals};
 use std::borrow::Cow;
 
 /// A list of coordinates; the longest ones are made once and lent.
@@ -12,13 +13,15 @@ pub type List = Cow<'static, [f64]>;
 /// What a call is given. Parameters are floats by their bits, or whole numbers:
 /// a box its six bounds; a prism z_bottom, z_top, start, count; a method of Bbox the four bounds,
 /// then the other box's or the point; a call on one number, that number; `layer_name`, the layer's number; `copy_physical_name`, the room.
-/// A region has its material, net and polygon too. Lent are the call's blocks, then the name asked for.
+/// A region has its material, net and polygon too; what is extruded, z_bottom and z_top, or six bounds, with a material and a net. Lent are the call's
+/// blocks, then the name asked for.
 pub struct Case {
     pub call: Call,
     pub xs: List,
     pub ys: List,
     pub params: [u64; 8],
     pub region: [u32; 3],
+    pub regions: Regions,
     pub lent: Vec<Lent>,
 }
 
@@ -27,7 +30,7 @@ pub const COPY: usize = 40;
 pub const BEFORE: u8 = 0xa5;
 
 /// The most values that a call gives.
-pub const VALUES: usize = 7;
+pub const VALUES: usize = 12;
 
 /// A status, and the values: floats by their bits, truths as 0 or 1, whole numbers as they are, then zeros.
 #[derive(Clone, Copy, PartialEq, Debug)]
@@ -76,11 +79,14 @@ impl Case {
         match call {
             PolygonSignedArea | PolygonArea | IsCcw | IsAxisAlignedRectangle | BboxFromPoints => {
                 let (xs, ys) = rings::lists(r, number);
-                Case { call, xs: xs.into(), ys: ys.into(), params: [0; 8], region: [0; 3], lent: vec![] }
+                Case { xs: xs.into(), ys: ys.into(), ..Case::of_numbers(call, &[]) }
             }
             BoxVolume | BoxFootprintBbox => solids::boxed(call, r),
             PrismVolume | PrismFootprintBbox => solids::prism(call, r, number),
             BoxRegionVolume | PrismRegionVolume => solids::region(call, r, number),
+            ExtrudePolygon => extrusions::polygon(r, number),
+            ExtrudeBox => extrusions::boxed(r),
+            TotalVolume => totals::draw(r, number),
             Sqrt => Case::of_numbers(call, &[roots::draw(r, number)]),
             Abs => Case::of_numbers(call, &[numbers::any(r)]),
             CheckBlocks | LookUp | PhysicalName | CopyPhysicalName | LayerName | StackLayer | ViaLayers
@@ -112,12 +118,13 @@ impl Case {
     }
 
     /// A case with no list.
-    fn of_numbers(call: Call, numbers: &[f64]) -> Case {
+    pub fn of_numbers(call: Call, numbers: &[f64]) -> Case {
         let mut params = [0; 8];
         for (param, x) in params.iter_mut().zip(numbers) {
             *param = x.to_bits();
         }
-        Case { call, xs: List::Borrowed(&[]), ys: List::Borrowed(&[]), params, region: [0; 3], lent: vec![] }
+        let (xs, ys) = (List::Borrowed(&[][..]), List::Borrowed(&[][..]));
+        Case { call, xs, ys, params, region: [0; 3], regions: Regions::default(), lent: vec![] }
     }
 
     pub fn float(&self, place: usize) -> f64 {

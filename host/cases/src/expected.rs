@@ -1,6 +1,8 @@
 //! What is expected of a case: a refusal of document 01, or else what the unchanged Rust answers. Of a call on name
 //! blocks it is document 01's answer, held to the Rust's.
 mod lookups;
+mod regions;
+pub mod stacks;
 
 use crate::call::Call::*;
 use crate::case::{Answer, Case};
@@ -26,6 +28,7 @@ pub fn kind(case: &Case, answer: &Answer) -> Option<usize> {
         _ if answer.status != 0 || case.call.kinds().is_empty() => None,
         LayerName => Some((answer.values[1] != 0) as usize),
         CopyPhysicalName => Some((answer.values[0] != 0) as usize),
+        TotalVolume => Some(!case.regions.kinds.is_empty() as usize),
         MaterialNumber => Some(paper::blocks::material_kind(answer.values[0], case.block(0), case.block(1))),
         _ => Some(answer.values[0] as usize),
     }
@@ -83,6 +86,9 @@ fn of_the_rust(case: &Case) -> Answer {
         PrismZTop => Answer::floats(&[flat_prism(case).z_top()]),
         BoxRegionVolume => Answer::floats(&[region(case, boxed(case)).volume()]),
         PrismRegionVolume => Answer::floats(&[region(case, prism(case)).volume()]),
+        ExtrudePolygon => regions::polygon(case),
+        ExtrudeBox => regions::boxed(case),
+        TotalVolume => regions::total(case),
         _ => unreachable!("{} is not a call on numbers", case.call.name()),
     }
 }

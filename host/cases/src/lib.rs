@@ -4,9 +4,12 @@ pub mod call;
 pub mod case;
 pub mod expected;
 pub mod paper;
+pub mod regions;
+pub mod stacks;
 
 mod boxes;
 mod damage;
+mod extrusions;
 mod lookups;
 mod names;
 mod numbers;
@@ -16,3 +19,4 @@ mod rings;
 mod roots;
 mod rows;
 mod solids;
+mod totals;

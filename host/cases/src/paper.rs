@@ -1,5 +1,7 @@
 //! Document 01's refusals, transcribed: the first that applies, or 0. Calls on name blocks are answered whole.
 pub mod blocks;
+mod regions;
+pub mod stacks;
 
 use crate::call::Call::*;
 use crate::case::Case;
@@ -13,6 +15,9 @@ pub fn status(case: &Case) -> u32 {
         PolygonSignedArea | PolygonArea | IsCcw | IsAxisAlignedRectangle | BboxFromPoints => ring(&case.xs, &case.ys),
         BoxVolume | BoxFootprintBbox | BoxRegionVolume => boxed(case),
         PrismVolume | PrismFootprintBbox | PrismRegionVolume => prism(case),
+        ExtrudePolygon => regions::extruded_polygon(case),
+        ExtrudeBox => regions::extruded_box(case),
+        TotalVolume => regions::total(&case.regions, &case.xs, &case.ys),
         _ => 0,
     }
 }

@@ -54,7 +54,7 @@ fn distinct(r: &mut Random, count: usize, utf8: bool) -> Vec<Name> {
 
 const LAYERS: [i16; 12] = [0, 1, 2, 255, 256, 257, -1, -2, -256, 32767, -32767, -32768];
 
-fn layers(r: &mut Random, count: usize) -> Vec<i16> {
+pub fn layers(r: &mut Random, count: usize) -> Vec<i16> {
     let mut numbers = LAYERS.to_vec();
     numbers.extend(if count > LONG { 1000..1300 } else { 3..6 });
     r.shuffle(&mut numbers);

@@ -7,23 +7,23 @@ use crate::rings;
 use std::sync::OnceLock;
 
 /// The longest point list that is admitted.
-const POINTS_MOST: usize = 2_097_152;
+pub const POINTS_MOST: usize = 2_097_152;
 
-/// A list longer than any that is admitted, made once; it has numbers that are not admitted.
-fn long(len: usize) -> List {
+/// A list longer than any that is admitted, made once; it has numbers that are not admitted. So many entries from this place on.
+pub fn long(from: usize, len: usize) -> List {
     static LONG: OnceLock<Vec<f64>> = OnceLock::new();
     let all = LONG.get_or_init(|| {
         let r = &mut Random::of_case(0, 0, 0);
         let number = |place| if place % 1000 == 0 { numbers::outside(r) } else { r.unit() };
-        (0..POINTS_MOST + 2).map(number).collect()
+        (0..POINTS_MOST + 3).map(number).collect()
     });
-    List::Borrowed(&all[..len])
+    List::Borrowed(&all[from..from + len])
 }
 
 fn long_pair(r: &mut Random) -> (List, List) {
     let len = POINTS_MOST + r.below(2);
     let other = if r.one_in(6) { len + 1 } else { len };
-    (long(len), long(other))
+    (long(0, len), long(1, other))
 }
 
 pub fn boxed(call: Call, r: &mut Random) -> Case {
@@ -41,14 +41,10 @@ pub fn boxed(call: Call, r: &mut Random) -> Case {
         }
         (xs.into(), ys.into())
     };
-    let mut params = [0; 8];
-    for (param, x) in params.iter_mut().zip(bounds) {
-        *param = x.to_bits();
-    }
-    Case { call, xs, ys, params, region: [0; 3], lent: vec![] }
+    Case { xs, ys, ..Case::of_numbers(call, &bounds) }
 }
 
-fn bounds(r: &mut Random) -> [f64; 6] {
+pub fn bounds(r: &mut Random) -> [f64; 6] {
     match r.below(5) {
         0 => std::array::from_fn(|_| r.between(-3, 3) as f64),
         1 => std::array::from_fn(|_| r.pick(&[0.0, -0.0, 1.0, -1.0, 5e-324, MOST, -MOST])),
@@ -93,10 +89,10 @@ pub fn prism(call: Call, r: &mut Random, number: u64) -> Case {
 
 fn of(call: Call, heights: [f64; 2], start: u32, count: u32, xs: List, ys: List) -> Case {
     let params = [heights[0].to_bits(), heights[1].to_bits(), start as u64, count as u64, 0, 0, 0, 0];
-    Case { call, xs, ys, params, region: [0; 3], lent: vec![] }
+    Case { xs, ys, params, ..Case::of_numbers(call, &[]) }
 }
 
-fn heights(r: &mut Random) -> [f64; 2] {
+pub fn heights(r: &mut Random) -> [f64; 2] {
     match r.below(4) {
         0 => [r.between(-2, 2) as f64, r.between(-2, 2) as f64],
         1 => [r.pick(&[0.0, -0.0, 1.0]), r.pick(&[0.0, -0.0, MOST, -MOST, 5e-324])],
@@ -113,7 +109,7 @@ pub fn region(call: Call, r: &mut Random, number: u64) -> Case {
 }
 
 /// Parts at the end of a list, past it, and those whose end is past the largest u32.
-fn other_part(r: &mut Random, len: usize) -> (u32, u32) {
+pub fn other_part(r: &mut Random, len: usize) -> (u32, u32) {
     let len = len as u32;
     let some = r.below(5) as u32;
     match r.below(7) {

@@ -3,7 +3,8 @@ use cases::call::Call;
 use std::time::Duration;
 
 pub const USAGE: &str = "\
-compare [--cases N] [--seed S] [--call NAME]     N cases a call (100,000; twelve times as many of sqrt)
+compare [--cases N] [--seed S] [--call NAME]     N cases a call (100,000; twelve times as many of sqrt,
+                                                 a fifth of the calls on regions and of assemble_stack)
 compare --seconds T [--seed S] [--call NAME]     rounds of cases until T seconds have passed
 compare --roots [--seed S]                       12,000,000 square roots, a million near a middle of two floats
 compare --call NAME --number N [--seed S]        one case, printed";
@@ -13,11 +14,13 @@ pub struct Args {
     pub seed: u64,
     pub seconds: Option<Duration>,
     pub call: Option<Call>,
+    /// `assemble_stack` is the call named.
+    pub stacks: bool,
     pub number: Option<u64>,
 }
 
 pub fn read() -> Result<Args, String> {
-    let mut args = Args { cases: 100_000, seed: 1, seconds: None, call: None, number: None };
+    let mut args = Args { cases: 100_000, seed: 1, seconds: None, call: None, stacks: false, number: None };
     let mut words = std::env::args().skip(1);
     while let Some(word) = words.next() {
         if word == "--roots" {
@@ -30,12 +33,13 @@ pub fn read() -> Result<Args, String> {
             "--cases" => args.cases = whole(&value)?,
             "--seed" => args.seed = whole(&value)?,
             "--seconds" => args.seconds = Some(Duration::from_secs(whole(&value)?)),
+            "--call" if value == "assemble_stack" => args.stacks = true,
             "--call" => args.call = Some(Call::named(&value).ok_or(format!("no call {value}"))?),
             "--number" => args.number = Some(whole(&value)?),
             _ => return Err(format!("{word} is not known")),
         }
     }
-    if args.number.is_some() && args.call.is_none() {
+    if args.number.is_some() && args.call.is_none() && !args.stacks {
         return Err("--number asks for --call".into());
     }
     Ok(args)

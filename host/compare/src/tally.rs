@@ -2,6 +2,7 @@
 use cases::call::Call;
 use cases::case::{Answer, Case};
 use cases::expected;
+use cases::regions::Regions;
 use std::fmt;
 
 /// Mismatches of a call that are printed.
@@ -93,6 +94,7 @@ impl fmt::Display for Shown<'_> {
         for lent in &case.lent {
             show_bytes(f, &lent.bytes)?;
         }
+        show_regions(f, &case.regions)?;
         show_answer(f, "expected", &expected::answer(case))?;
         let said = rattle::answer(case);
         show_answer(f, "Rattle  ", &said.answer)?;
@@ -104,7 +106,7 @@ impl fmt::Display for Shown<'_> {
 }
 
 /// Past 1,024 entries only the length is shown.
-fn show_list(f: &mut fmt::Formatter, name: &str, list: &[f64]) -> fmt::Result {
+pub fn show_list(f: &mut fmt::Formatter, name: &str, list: &[f64]) -> fmt::Result {
     write!(f, "  {name}: {}:", list.len())?;
     if list.len() <= 1024 {
         for x in list {
@@ -115,11 +117,25 @@ fn show_list(f: &mut fmt::Formatter, name: &str, list: &[f64]) -> fmt::Result {
 }
 
 /// In rows of 32 bytes; past 4,096 only the length is shown.
-fn show_bytes(f: &mut fmt::Formatter, bytes: &[u8]) -> fmt::Result {
+pub fn show_bytes(f: &mut fmt::Formatter, bytes: &[u8]) -> fmt::Result {
     writeln!(f, "  lent: {} bytes", bytes.len())?;
     for row in bytes.chunks(32).take_while(|_| bytes.len() <= 4096) {
         let digits: String = row.iter().map(|byte| format!("{byte:02x}")).collect();
         writeln!(f, "    {digits}")?;
+    }
+    Ok(())
+}
+
+/// Past 64 regions only the lengths of the lists are shown.
+fn show_regions(f: &mut fmt::Formatter, regions: &Regions) -> fmt::Result {
+    let lengths = regions.lengths();
+    if lengths.iter().any(|length| *length > 0) {
+        writeln!(f, "  regions: {lengths:?}")?;
+    }
+    if lengths.iter().all(|length| *length == lengths[0] && *length <= 64) {
+        for row in regions.rows() {
+            writeln!(f, "    {:x?}", row.words())?;
+        }
     }
     Ok(())
 }

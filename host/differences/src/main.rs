@@ -2,7 +2,7 @@
 //! document 01 refuses.
 use oracle::core::geometry::*;
 use oracle::core::mesh::{Element, ElementType, Mesh};
-use oracle::geometry::total_volume;
+use oracle::geometry::{extrude_box, total_volume};
 use oracle::meshing::reach::cells_for;
 use oracle::meshing::{mesh_region, mesh_volume, weld_nodes, MeshConfig};
 use std::panic;
@@ -14,6 +14,8 @@ fn main() -> ExitCode {
     panic::set_hook(Box::new(|_| {}));
     let lines = [
         ("the total volume of no regions is -0", is_minus_zero(total_volume(&[]))),
+        ("4,097 regions have a total volume", total_volume(&vec![boxed(1); 4097]) == 4097.0),
+        ("a box of material 769 is extruded", boxed(769).material_id == 769),
         ("513 points have an area", polygon_signed_area(&vec![Point::new(0.0, 0.0); 513]) == 0.0),
         ("an area with a not-a-number is not a number", polygon_signed_area(&points(&[(f64::NAN, 0.0), (1.0, 0.0), (0.0, 1.0)])).is_nan()),
         ("a coordinate above 2^20 has an area", polygon_signed_area(&points(&[(0.0, 0.0), (1048577.0, 0.0), (0.0, 1.0)])) == 524288.5),
@@ -46,6 +48,11 @@ fn is_minus_zero(x: f64) -> bool {
 
 fn panics<T>(job: impl FnOnce() -> T + panic::UnwindSafe) -> bool {
     panic::catch_unwind(job).is_err()
+}
+
+/// A box of volume 1.
+fn boxed(material: u32) -> SolidRegion {
+    extrude_box(Bbox { min_x: 0.0, min_y: 0.0, max_x: 1.0, max_y: 1.0 }, 0.0, 1.0, material, None, None, None)
 }
 
 fn prism(footprint: &[(f64, f64)]) -> SolidRegion {

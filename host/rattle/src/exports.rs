@@ -19,6 +19,7 @@ pub struct Bbox {
 type List = *const f64;
 type Out = *mut f64;
 type Bytes = *const u8;
+type Numbers = *const u32;
 
 extern "C" {
     pub fn openrdson_polygon_signed_area(xs: List, nx: usize, ys: List, ny: usize, area: Out) -> u32;
@@ -70,6 +71,24 @@ extern "C" {
     pub fn openrdson_box_z_top(min_x: f64, min_y: f64, max_x: f64, max_y: f64, z_bottom: f64, z_top: f64) -> f64;
     pub fn openrdson_prism_z_bottom(z_bottom: f64, z_top: f64, start: u32, count: u32) -> f64;
     pub fn openrdson_prism_z_top(z_bottom: f64, z_top: f64, start: u32, count: u32) -> f64;
+
+    pub fn openrdson_extrude_polygon(
+        xs: List, nx: usize, ys: List, ny: usize, z_bottom: f64, z_top: f64, material: u32, net: u32,
+        kind: *mut u8, min_x: Out, min_y: Out, max_x: Out, max_y: Out, out_z_bottom: Out, out_z_top: Out,
+        start: *mut u32, count: *mut u32, out_material: *mut u32, out_net: *mut u32, polygon: *mut u32,
+    ) -> u32;
+    pub fn openrdson_extrude_box(
+        sides: Bbox, z_bottom: f64, z_top: f64, material: u32, net: u32,
+        kind: *mut u8, min_x: Out, min_y: Out, max_x: Out, max_y: Out, out_z_bottom: Out, out_z_top: Out,
+        start: *mut u32, count: *mut u32, out_material: *mut u32, out_net: *mut u32, polygon: *mut u32,
+    ) -> u32;
+    pub fn openrdson_total_volume(
+        kinds: Bytes, n1: usize, min_x: List, n2: usize, min_y: List, n3: usize, max_x: List, n4: usize,
+        max_y: List, n5: usize, z_bottom: List, n6: usize, z_top: List, n7: usize,
+        starts: Numbers, n8: usize, counts: Numbers, n9: usize, materials: Numbers, n10: usize,
+        nets: Numbers, n11: usize, polygons: Numbers, n12: usize,
+        xs: List, nx: usize, ys: List, ny: usize, volume: Out,
+    ) -> u32;
 
     pub fn openrdson_sqrt(x: f64) -> f64;
     pub fn openrdson_abs(x: f64) -> f64;

@@ -2,6 +2,9 @@
 pub mod exports;
 mod lookups;
 mod outputs;
+mod regions;
+#[cfg(feature = "stack")]
+pub mod stacks;
 
 use cases::call::Call::*;
 use cases::case::{Answer, Case};
@@ -40,6 +43,7 @@ pub fn answer(case: &Case) -> Said {
             }
             CopyPhysicalName => return plain(lookups::copied(case)),
             IsMarker => return whole(openrdson_is_marker(case.name().as_ptr(), case.name().len()) as u64),
+            ExtrudePolygon | ExtrudeBox | TotalVolume => regions::status(case, &mut outputs),
             Sqrt => return float(openrdson_sqrt(x)),
             Abs => return float(openrdson_abs(x)),
             CeilCapped => return whole(openrdson_ceil_capped(x)),

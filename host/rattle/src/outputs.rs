@@ -37,7 +37,7 @@ impl Outputs {
                 let written = &mut self.0[2 * i + 1];
                 let mask = match output {
                     Output::Float | Output::Whole => u64::MAX,
-                    Output::Truth => 0xff,
+                    Output::Truth | Output::Kind => 0xff,
                     Output::Number => 0xffff_ffff,
                 };
                 let value = *written & mask;

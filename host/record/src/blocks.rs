@@ -60,5 +60,5 @@ fn write(sample: &mut Sample, case: &Case, answer: &Answer) {
     let bytes: Vec<u8> = case.lent.iter().flat_map(|lent| lent.bytes.iter().copied()).collect();
     sample.padded(&bytes);
     sample.words([answer.status as u64]);
-    sample.words(answer.values);
+    sample.words(answer.values[..7].iter().copied());
 }

@@ -119,18 +119,18 @@ fn text_if(name: &Option<Name>) -> Option<Option<String>> {
     }
 }
 
-fn layer_names(rows: &Rows) -> Option<BTreeMap<i16, String>> {
+pub(super) fn layer_names(rows: &Rows) -> Option<BTreeMap<i16, String>> {
     let Rows::LayerNames(rows) = rows else { return None };
     rows.iter().map(|(number, name)| Some((*number, text(name)?))).collect()
 }
 
-fn map(rows: &Rows) -> Option<BTreeMap<String, String>> {
+pub(super) fn map(rows: &Rows) -> Option<BTreeMap<String, String>> {
     let Rows::Map(rows) = rows else { return None };
     rows.iter().map(|(logical, physical)| Some((text(logical)?, text(physical)?))).collect()
 }
 
 /// Stack blocks are conductors, then diffusions.
-fn stack(blocks: &[&Rows]) -> Option<TechStack> {
+pub(super) fn stack(blocks: &[&Rows]) -> Option<TechStack> {
     let mut stack = TechStack::default();
     for (place, rows) in blocks.iter().enumerate() {
         match rows {

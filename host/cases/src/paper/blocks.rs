@@ -4,9 +4,9 @@ use crate::call::Call::*;
 use crate::case::{Answer, Case, BEFORE, COPY};
 
 /// A row's key, its value, and where the value stands in the block.
-struct Row<'a> {
-    key: &'a [u8],
-    value: &'a [u8],
+pub(super) struct Row<'a> {
+    pub(super) key: &'a [u8],
+    pub(super) value: &'a [u8],
     at: usize,
 }
 
@@ -108,7 +108,7 @@ pub fn material_kind(number: u64, conductors: &[u8], diffusions: &[u8]) -> usize
 }
 
 /// "A block has exactly its counted length", and its cells are sound; none if it is damaged.
-fn rows(kind: Kind, block: &[u8]) -> Option<Vec<Row<'_>>> {
+pub(super) fn rows(kind: Kind, block: &[u8]) -> Option<Vec<Row<'_>>> {
     let (key, value) = match kind {
         Kind::LayerNames => (2, 32),
         Kind::Map => (32, 32),
@@ -141,7 +141,7 @@ fn is_name(cell: &[u8]) -> bool {
 }
 
 /// The cell without its padding.
-fn name(cell: &[u8]) -> &[u8] {
+pub(super) fn name(cell: &[u8]) -> &[u8] {
     cell.split(|byte| *byte == 0).next().unwrap_or(&[])
 }
 
@@ -162,18 +162,18 @@ fn repeats(rows: &[Row]) -> bool {
 }
 
 /// "of equal stack names the first is found"
-fn found<'a, 'b>(rows: &'b [Row<'a>], asked: &[u8]) -> Option<&'b Row<'a>> {
+pub(super) fn found<'a, 'b>(rows: &'b [Row<'a>], asked: &[u8]) -> Option<&'b Row<'a>> {
     rows.iter().find(|row| name(row.key) == asked)
 }
 
 /// Height and thickness, where present.
-fn figures_of(entry: &[u8]) -> [Option<f64>; 2] {
+pub(super) fn figures_of(entry: &[u8]) -> [Option<f64>; 2] {
     let figure = |at: usize| f64::from_le_bytes(entry[at..at + 8].try_into().unwrap());
     [(entry[0] & 1 != 0).then(|| figure(1)), (entry[0] & 2 != 0).then(|| figure(9))]
 }
 
 /// "finite, at most 2^19 in size"
-fn figures(rows: &[Row]) -> Result<(), u32> {
+pub(super) fn figures(rows: &[Row]) -> Result<(), u32> {
     let admitted = |figure: f64| figure.is_finite() && figure.abs() <= 524_288.0;
     let mut all = rows.iter().flat_map(|row| figures_of(row.value)).flatten();
     if all.all(admitted) { Ok(()) } else { Err(1) }
@@ -189,7 +189,7 @@ fn part(at: usize, name: &[u8]) -> (u64, u64) {
 }
 
 /// "the logical name starts with `seed_` or `BLOCK_`, or contains `_prop`, `marker` or `drawing`"
-fn is_marker(name: &[u8]) -> bool {
+pub(super) fn is_marker(name: &[u8]) -> bool {
     let contains = |text: &[u8]| name.windows(text.len()).any(|part| part == text);
     let starts = name.starts_with(b"seed_") || name.starts_with(b"BLOCK_");
     starts || contains(b"_prop") || contains(b"marker") || contains(b"drawing")

@@ -1,10 +1,10 @@
 -- `openrdson_is_axis_aligned_rectangle` meets its contract. Assumes nothing.
 use Rattle.c_api.proofs.Same.{same}
 use borrow.Author.Needs.{needs}
-use Rattle.c_api.proofs.geometry.openrdson_is_axis_aligned_rectangle.Statement.{statement}
-use Rattle.c_api.proofs.geometry.openrdson_is_axis_aligned_rectangle.Tie as tie
-use Rattle.c_api.proofs.geometry.openrdson_is_axis_aligned_rectangle.Reads as reads
-use Rattle.c_api.proofs.geometry.openrdson_is_axis_aligned_rectangle.Lts as lts
+use Rattle.c_api.proofs.rings.openrdson_is_axis_aligned_rectangle.Statement.{statement}
+use Rattle.c_api.proofs.rings.openrdson_is_axis_aligned_rectangle.Tie as tie
+use Rattle.c_api.proofs.rings.openrdson_is_axis_aligned_rectangle.Reads as reads
+use Rattle.c_api.proofs.rings.openrdson_is_axis_aligned_rectangle.Lts as lts
 use Rattle.c_api.proofs.answers.give_truth.Reads as give-truth-reads
 use Rattle.openrdson_core.proofs.is_axis_aligned_rectangle.Reads as is-axis-aligned-rectangle-reads
 

@@ -1,10 +1,10 @@
 -- `openrdson_polygon_signed_area` meets its contract. Assumes nothing.
 use Rattle.c_api.proofs.Same.{same}
 use borrow.Author.Needs.{needs}
-use Rattle.c_api.proofs.geometry.openrdson_polygon_signed_area.Statement.{statement}
-use Rattle.c_api.proofs.geometry.openrdson_polygon_signed_area.Tie as tie
-use Rattle.c_api.proofs.geometry.openrdson_polygon_signed_area.Reads as reads
-use Rattle.c_api.proofs.geometry.openrdson_polygon_signed_area.Lts as lts
+use Rattle.c_api.proofs.rings.openrdson_polygon_signed_area.Statement.{statement}
+use Rattle.c_api.proofs.rings.openrdson_polygon_signed_area.Tie as tie
+use Rattle.c_api.proofs.rings.openrdson_polygon_signed_area.Reads as reads
+use Rattle.c_api.proofs.rings.openrdson_polygon_signed_area.Lts as lts
 use Rattle.c_api.proofs.answers.give_number.Reads as give-number-reads
 use Rattle.openrdson_core.proofs.polygon_signed_area.Reads as polygon-signed-area-reads
 

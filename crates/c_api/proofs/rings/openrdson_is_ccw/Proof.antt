@@ -1,10 +1,10 @@
 -- `openrdson_is_ccw` meets its contract. Assumes nothing.
 use Rattle.c_api.proofs.Same.{same}
 use borrow.Author.Needs.{needs}
-use Rattle.c_api.proofs.geometry.openrdson_is_ccw.Statement.{statement}
-use Rattle.c_api.proofs.geometry.openrdson_is_ccw.Tie as tie
-use Rattle.c_api.proofs.geometry.openrdson_is_ccw.Reads as reads
-use Rattle.c_api.proofs.geometry.openrdson_is_ccw.Lts as lts
+use Rattle.c_api.proofs.rings.openrdson_is_ccw.Statement.{statement}
+use Rattle.c_api.proofs.rings.openrdson_is_ccw.Tie as tie
+use Rattle.c_api.proofs.rings.openrdson_is_ccw.Reads as reads
+use Rattle.c_api.proofs.rings.openrdson_is_ccw.Lts as lts
 use Rattle.c_api.proofs.answers.give_truth.Reads as give-truth-reads
 use Rattle.openrdson_core.proofs.is_ccw.Reads as is-ccw-reads
 

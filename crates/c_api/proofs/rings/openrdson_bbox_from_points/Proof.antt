@@ -1,10 +1,10 @@
 -- `openrdson_bbox_from_points` meets its contract. Assumes nothing.
 use Rattle.c_api.proofs.Same.{same}
 use borrow.Author.Needs.{needs}
-use Rattle.c_api.proofs.geometry.openrdson_bbox_from_points.Statement.{statement}
-use Rattle.c_api.proofs.geometry.openrdson_bbox_from_points.Tie as tie
-use Rattle.c_api.proofs.geometry.openrdson_bbox_from_points.Reads as reads
-use Rattle.c_api.proofs.geometry.openrdson_bbox_from_points.Lts as lts
+use Rattle.c_api.proofs.rings.openrdson_bbox_from_points.Statement.{statement}
+use Rattle.c_api.proofs.rings.openrdson_bbox_from_points.Tie as tie
+use Rattle.c_api.proofs.rings.openrdson_bbox_from_points.Reads as reads
+use Rattle.c_api.proofs.rings.openrdson_bbox_from_points.Lts as lts
 use Rattle.c_api.proofs.answers.give_bounds.Reads as give-bounds-reads
 use Rattle.openrdson_core.proofs.bounds.Bbox.from_points.Reads as from-points-reads
 
