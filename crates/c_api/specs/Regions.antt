@@ -3,6 +3,7 @@ use Prim.Native.Nat.{ℕ}
 use lib.Ieee.{Float}
 use Rattle.openrdson_core.specs.declared.solids.Solid.{Solid}
 use Rattle.openrdson_core.specs.declared.solids.SolidRegion.{SolidRegion}
+use Rattle.openrdson_core.specs.Solids.{zBottom, zTop}
 use Rattle.geometry.specs.Regions as regions
 
 -- the entries of a solid
@@ -33,7 +34,7 @@ theSolidRow k x0 y0 x1 y1 z0 z1 s n =
 
 abbrev pub solidRow : Solid → SolidRow
 solidRow s =
-    theSolidRow (regions.kindOf s) (regions.minXOf s) (regions.minYOf s) (regions.maxXOf s) (regions.maxYOf s) (regions.zBottomOf s) (regions.zTopOf s)
+    theSolidRow (regions.kindOf s) (regions.minXOf s) (regions.minYOf s) (regions.maxXOf s) (regions.maxYOf s) (zBottom s) (zTop s)
     (regions.startOf s) (regions.countOf s)
 
 -- and those of its material, its net and its polygon
