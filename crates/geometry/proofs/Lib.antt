@@ -8,4 +8,5 @@ pub mod TableLaws
 pub mod PolygonLaws
 pub mod RowLaws
 pub mod StackLaws
+pub mod AssembleLaws
 pub mod GeometryShapes

@@ -1,22 +1,49 @@
 -- A polygon as a part of the point lists. Assumes nothing.
 use Prim.Native.Nat.{ℕ, _+_, _-_, _≤_, _<_}
 use mathlib.Core.Path.{_≡_, refl, sym, ap, _∙_}
-use mathlib.Core.Bool.{true}
-use mathlib.Core.List.{List}
+use mathlib.Core.Bool.{Bool, true, false, _&&_}
+use mathlib.Core.List.{List, [], _∷_}
 use native.Mathlib.Omega.{arith}
-use lib.Dec.{leb}
+use lib.Dec.{eqb, leb}
 use lib.ListN.{length, take, drop, getD}
 use lib.Ieee.{Float}
-use borrow.Author.Tests.{le-leb, lt-leb, leb-true}
+use borrow.Author.Tests.{eqb-true, le-leb, lt-leb, leb-true}
 use Rattle.lists.specs.Answer.{Answer, refused, given, unless}
 use Rattle.lists.specs.Lists.{part}
 use Rattle.lists.proofs.Answers.{passed, given-same, refused-given}
 use Rattle.lists.proofs.Folds.{steps-start, steps-more, steps-stop, steps-end, steps-passed}
 use Rattle.lists.proofs.Parts.{part-lent}
+use Rattle.lists.proofs.Scans.{both}
 use Rattle.openrdson_core.specs.Points.{ringFault, ofRing}
 use Rattle.openrdson_core.specs.declared.solids.Solid.{Solid}
 use Rattle.geometry.specs.Extrude.{solidOf}
-use Rattle.geometry.specs.Polygons.{partFault, partsFault, partSolid}
+use Rattle.geometry.specs.Regions.{allEqual}
+use Rattle.geometry.specs.Polygons.{Polygons, evenPolygons, EvenPolygons, partFault, partsFault, partSolid}
+use Rattle.geometry.proofs.RegionLaws.{next-equal}
+
+-- ---- the lengths
+
+-- four tests as the code has them, and as the definition
+grouped : (a b c d : Bool) → ((a && b) && c) && d ≡ ((a && (b && (c && true))) && d)
+grouped false b c d = refl
+grouped true false c d = refl
+grouped true true false d = refl
+grouped true true true d = refl
+
+pub lists-equal : (n a b c x y : ℕ) → ((eqb a n && eqb b n) && eqb c n) && eqb x y ≡ (allEqual n (a ∷ b ∷ c ∷ []) && eqb x y)
+unfolding allEqual
+lists-equal n a b c x y = grouped (eqb a n) (eqb b n) (eqb c n) (eqb x y)
+
+pub polygons-even-of : (p : Polygons) → evenPolygons p ≡ true → EvenPolygons p
+unfolding evenPolygons
+polygons-even-of p e =
+    let w = both (allEqual (length (p .layers)) (length (p .nets) ∷ length (p .starts) ∷ length (p .counts) ∷ [])) (eqb (length (p .xs)) (length (p .ys))) e in
+    let a = next-equal _ _ _ (w .0) in
+    let b = next-equal _ _ _ (a .1) in
+    let c = next-equal _ _ _ (b .1) in
+    record { nets = a .0; starts = b .0; counts = c .0; points = eqb-true _ _ (w .1) }
+
+-- ---- parts
 
 module _ (xs ys : List Float) (start count : ℕ) where
   -- the part as a program lends it

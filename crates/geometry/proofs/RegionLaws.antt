@@ -43,7 +43,7 @@ both true q e = (refl, e)
 both false q e = (e, cc)
 
 -- the first length, and the rest
-next-equal : (n a : ℕ) (rest : List ℕ) → allEqual n (a ∷ rest) ≡ true → (a ≡ n) × (allEqual n rest ≡ true)
+pub next-equal : (n a : ℕ) (rest : List ℕ) → allEqual n (a ∷ rest) ≡ true → (a ≡ n) × (allEqual n rest ≡ true)
 unfolding allEqual
 next-equal n a rest e = let w = both (eqb a n) (allEqual n rest) e in (eqb-true a n (w .0), w .1)
 

@@ -19,4 +19,5 @@ pub use regions::NO_POLYGON;
 pub use regions::are_regions_even;
 pub use regions::region_at;
 pub use stack::Stacked;
+pub use stack::assemble_stack;
 pub use volume::total_volume;

@@ -1,10 +1,12 @@
 // The polygons of a layout: layer, net and a part of the point lists each.
 ghost use mathlib.Core.Path.{_≡_};
-ghost use Prim.Native.Nat.{_<_};
+ghost use mathlib.Core.Bool.{_&&_};
+ghost use mathlib.Core.List.{[], _∷_};
+ghost use lib.Dec.{eqb};
 ghost use lib.ListN.{length};
-ghost use lib.IntN.{pos};
 ghost use Rattle.lists.specs.Answer.{given};
 ghost use Rattle.openrdson_core.specs.Answers.{checkAnswer};
+ghost use Rattle.geometry.specs.Regions.{allEqual};
 ghost use Rattle.geometry.specs.Polygons as spec;
 use crate::extrude::Extruded;
 use crate::extrude::extrude_ring;
@@ -12,6 +14,20 @@ use openrdson_core::Check;
 use openrdson_core::Refusal;
 use openrdson_core::Solid;
 use openrdson_core::ring_check;
+
+// Whether a layout's four lists of polygons, and its two of points, by their lengths, are equally long.
+pub fn are_polygons_even(
+    layers: usize,
+    nets: usize,
+    starts: usize,
+    counts: usize,
+    xs: usize,
+    ys: usize,
+) -> bool
+    ensures { λ r. ⌜ r ≡ (allEqual layers (nets ∷ starts ∷ counts ∷ []) && eqb xs ys) ⌝ }
+{
+    (nets == layers) & (starts == layers) & (counts == layers) & (xs == ys)
+}
 
 // Whether anything is against the polygon with this part of the point lists: 15, 2, 1.
 fn polygon_check(start: u32, count: u32, xs: &[f64], ys: &[f64]) -> Check

@@ -13,6 +13,7 @@ ghost use Rattle.geometry.specs.Plans.{theBlocks, Sound, planOf};
 ghost use Rattle.geometry.specs.Table.{theTable, Room, layerPlan};
 ghost use Rattle.geometry.specs.Stack as spec;
 use crate::plans::Plan;
+use crate::polygons::are_polygons_even;
 use crate::polygons::polygon_solid;
 use crate::polygons::polygons_check;
 use crate::regions::are_regions_even;
@@ -188,4 +189,193 @@ fn place_polygons(
         k += placed.rows;
         i += 1;
     }
+}
+
+// With blocks, lists and polygons checked: 12, or all regions and outcomes are written. The plans take 5,376 bytes of stack.
+fn stack_checked(
+    names: &[u8],
+    conducting: &[u8],
+    via: &[u8],
+    conductors: &[u8],
+    diffusions: &[u8],
+    vias: &[u8],
+    layers: &[i16],
+    nets: &[u32],
+    starts: &[u32],
+    counts: &[u32],
+    xs: &[f64],
+    ys: &[f64],
+    kinds: &mut [u8],
+    min_x: &mut [f64],
+    min_y: &mut [f64],
+    max_x: &mut [f64],
+    max_y: &mut [f64],
+    z_bottom: &mut [f64],
+    z_top: &mut [f64],
+    region_starts: &mut [u32],
+    region_counts: &mut [u32],
+    materials: &mut [u32],
+    region_nets: &mut [u32],
+    polygons: &mut [u32],
+    outcomes: &mut [u8],
+) -> Stacked
+    requires { ⌜ Sound (theBlocks (now names) (now conducting) (now via) (now conductors) (now diffusions) (now vias)) × EvenPolygons (thePolygons (now layers) (now nets) (now starts) (now counts) (now xs) (now ys)) × (length (now layers) ≤ 4096) × (partsFault (now xs) (now ys) (now starts) (now counts) (length (now layers)) ≡ given tt) × Even (theRegions (now kinds) (now «min_x») (now «min_y») (now «max_x») (now «max_y») (now «z_bottom») (now «z_top») (now «region_starts») (now «region_counts») (now materials) (now «region_nets») (now polygons)) ⌝ }
+    ensures { λ r. ⌜ spec.Leaves (spec.fitted (thePolygons (now (layers .entry)) (now (nets .entry)) (now (starts .entry)) (now (counts .entry)) (now (xs .entry)) (now (ys .entry))) (λ i. planOf (theBlocks (now (names .entry)) (now (conducting .entry)) (now (via .entry)) (now (conductors .entry)) (now (diffusions .entry)) (now (vias .entry))) (layerAt (thePolygons (now (layers .entry)) (now (nets .entry)) (now (starts .entry)) (now (counts .entry)) (now (xs .entry)) (now (ys .entry))) i)) (length (now (kinds .entry))) (length (now (outcomes .entry)))) (theRegions (now (kinds .entry)) (now («min_x» .entry)) (now («min_y» .entry)) (now («max_x» .entry)) (now («max_y» .entry)) (now («z_bottom» .entry)) (now («z_top» .entry)) (now («region_starts» .entry)) (now («region_counts» .entry)) (now (materials .entry)) (now («region_nets» .entry)) (now (polygons .entry))) (theRegions (now (kinds .exit)) (now («min_x» .exit)) (now («min_y» .exit)) (now («max_x» .exit)) (now («max_y» .exit)) (now («z_bottom» .exit)) (now («z_top» .exit)) (now («region_starts» .exit)) (now («region_counts» .exit)) (now (materials .exit)) (now («region_nets» .exit)) (now (polygons .exit))) (now (outcomes .entry)) (now (outcomes .exit)) r ⌝ }
+{
+    let mut plan_outcomes = [0; 256];
+    let mut plan_bottom = [0.0; 256];
+    let mut plan_top = [0.0; 256];
+    let mut plan_materials = [0; 256];
+    fill_plans(
+        names,
+        conducting,
+        via,
+        conductors,
+        diffusions,
+        vias,
+        &mut plan_outcomes,
+        &mut plan_bottom,
+        &mut plan_top,
+        &mut plan_materials,
+    );
+    let rows = count_rows(
+        names,
+        &plan_outcomes,
+        &plan_bottom,
+        &plan_top,
+        &plan_materials,
+        layers,
+    );
+    if rows > kinds.len() {
+        return Stacked::Refused(Refusal::OutputTooShort);
+    }
+    if layers.len() > outcomes.len() {
+        return Stacked::Refused(Refusal::OutputTooShort);
+    }
+    place_polygons(
+        names,
+        &plan_outcomes,
+        &plan_bottom,
+        &plan_top,
+        &plan_materials,
+        layers,
+        nets,
+        starts,
+        counts,
+        xs,
+        ys,
+        kinds,
+        min_x,
+        min_y,
+        max_x,
+        max_y,
+        z_bottom,
+        z_top,
+        region_starts,
+        region_counts,
+        materials,
+        region_nets,
+        polygons,
+        outcomes,
+    );
+    Stacked::Regions(rows)
+}
+
+// Stacks a layout: a region for each polygon with a range of heights, and one outcome a polygon; 14, 1, 16, 2, 15, 2, 1, 12.
+pub fn assemble_stack(
+    names: &[u8],
+    conducting: &[u8],
+    via: &[u8],
+    conductors: &[u8],
+    diffusions: &[u8],
+    vias: &[u8],
+    layers: &[i16],
+    nets: &[u32],
+    starts: &[u32],
+    counts: &[u32],
+    xs: &[f64],
+    ys: &[f64],
+    kinds: &mut [u8],
+    min_x: &mut [f64],
+    min_y: &mut [f64],
+    max_x: &mut [f64],
+    max_y: &mut [f64],
+    z_bottom: &mut [f64],
+    z_top: &mut [f64],
+    region_starts: &mut [u32],
+    region_counts: &mut [u32],
+    materials: &mut [u32],
+    region_nets: &mut [u32],
+    polygons: &mut [u32],
+    outcomes: &mut [u8],
+) -> Stacked
+    ensures { λ r. ⌜ spec.Leaves (spec.assembleStack (theBlocks (now (names .entry)) (now (conducting .entry)) (now (via .entry)) (now (conductors .entry)) (now (diffusions .entry)) (now (vias .entry))) (thePolygons (now (layers .entry)) (now (nets .entry)) (now (starts .entry)) (now (counts .entry)) (now (xs .entry)) (now (ys .entry))) (theRegions (now (kinds .entry)) (now («min_x» .entry)) (now («min_y» .entry)) (now («max_x» .entry)) (now («max_y» .entry)) (now («z_bottom» .entry)) (now («z_top» .entry)) (now («region_starts» .entry)) (now («region_counts» .entry)) (now (materials .entry)) (now («region_nets» .entry)) (now (polygons .entry))) (now (outcomes .entry))) (theRegions (now (kinds .entry)) (now («min_x» .entry)) (now («min_y» .entry)) (now («max_x» .entry)) (now («max_y» .entry)) (now («z_bottom» .entry)) (now («z_top» .entry)) (now («region_starts» .entry)) (now («region_counts» .entry)) (now (materials .entry)) (now («region_nets» .entry)) (now (polygons .entry))) (theRegions (now (kinds .exit)) (now («min_x» .exit)) (now («min_y» .exit)) (now («max_x» .exit)) (now («max_y» .exit)) (now («z_bottom» .exit)) (now («z_top» .exit)) (now («region_starts» .exit)) (now («region_counts» .exit)) (now (materials .exit)) (now («region_nets» .exit)) (now (polygons .exit))) (now (outcomes .entry)) (now (outcomes .exit)) r ⌝ }
+{
+    let blocks = check_blocks(names, conducting, via, conductors, diffusions, vias);
+    if let Check::Refused(why) = blocks {
+        return Stacked::Refused(why);
+    }
+    if !are_polygons_even(
+        layers.len(),
+        nets.len(),
+        starts.len(),
+        counts.len(),
+        xs.len(),
+        ys.len(),
+    ) {
+        return Stacked::Refused(Refusal::UnequalLists);
+    }
+    if !are_regions_even(
+        kinds.len(),
+        min_x.len(),
+        min_y.len(),
+        max_x.len(),
+        max_y.len(),
+        z_bottom.len(),
+        z_top.len(),
+        region_starts.len(),
+        region_counts.len(),
+        materials.len(),
+        region_nets.len(),
+        polygons.len(),
+    ) {
+        return Stacked::Refused(Refusal::UnequalLists);
+    }
+    if layers.len() > 4096 {
+        return Stacked::Refused(Refusal::ListTooLong);
+    }
+    if xs.len() > 2097152 {
+        return Stacked::Refused(Refusal::ListTooLong);
+    }
+    let polygons_fine = polygons_check(starts, counts, xs, ys);
+    if let Check::Refused(why) = polygons_fine {
+        return Stacked::Refused(why);
+    }
+    stack_checked(
+        names,
+        conducting,
+        via,
+        conductors,
+        diffusions,
+        vias,
+        layers,
+        nets,
+        starts,
+        counts,
+        xs,
+        ys,
+        kinds,
+        min_x,
+        min_y,
+        max_x,
+        max_y,
+        z_bottom,
+        z_top,
+        region_starts,
+        region_counts,
+        materials,
+        region_nets,
+        polygons,
+        outcomes,
+    )
 }
