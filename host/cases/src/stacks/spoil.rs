@@ -25,8 +25,12 @@ pub fn job(r: &mut Random, job: &mut Job) {
     }
 }
 
+/// A block that is damaged already stays as it is.
 fn block(r: &mut Random, job: &mut Job) {
     let place = r.below(6);
+    if job.blocks[place].rows.is_none() {
+        return;
+    }
     job.blocks[place] = Lent::damaged(damaged(r, BLOCKS[place], &job.blocks[place].bytes));
 }
 
