@@ -4,3 +4,4 @@ pub mod Lookups
 pub mod SolidCalls
 pub mod Copies
 pub mod Rows
+pub mod StackRows

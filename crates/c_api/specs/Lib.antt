@@ -2,3 +2,4 @@
 pub mod Given
 pub mod Lookups
 pub mod Regions
+pub mod Stacks

@@ -5,3 +5,4 @@ mod numbers;
 mod regions;
 mod rings;
 mod solids;
+mod stacks;

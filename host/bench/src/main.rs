@@ -2,7 +2,6 @@
 mod blocks;
 mod inputs;
 mod regions;
-#[cfg(feature = "stack")]
 mod stacks;
 
 use inputs::Ring;
@@ -21,7 +20,6 @@ fn main() {
     bounding_box("bounding box, circle of 512 points", &circle);
     roots("square root, of a million (Rust: hardware)", &inputs::values(1_000_000));
     regions::rows();
-    #[cfg(feature = "stack")]
     stacks::rows();
     blocks::rows();
 }

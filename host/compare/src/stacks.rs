@@ -1,14 +1,14 @@
-//! The comparison of `assemble_stack`. Without the feature `stack` document 01's answers are held to the Rust alone.
+//! The comparison of `assemble_stack`.
 use crate::tally::{show_bytes, show_list};
 use cases::expected;
 use cases::stacks::{Given, Job, REFUSALS, WAYS};
+use rattle::stacks::{answer, Stacked};
 use std::fmt;
 
 /// Jobs after which a status, an outcome or a way that was never drawn is a failure.
 const ENOUGH: u64 = 4000;
 
 /// Mismatches that are printed.
-#[cfg(feature = "stack")]
 const PRINTED: u64 = 5;
 
 const OUTCOMES: [&str; 6] = ["box", "prism", "unnamed layer", "marker", "unmatched", "no z range"];
@@ -33,9 +33,7 @@ impl Stacks {
         }
     }
 
-    #[cfg(feature = "stack")]
     fn hold(&mut self, job: &Job, expected: &Result<Given, u32>, seed: u64, number: u64) {
-        use rattle::stacks::{answer, Stacked};
         let (said, expected) = (answer(job), Stacked::expected(job, expected));
         if said.same(&expected) {
             return;
@@ -55,9 +53,6 @@ impl Stacks {
             }
         }
     }
-
-    #[cfg(not(feature = "stack"))]
-    fn hold(&mut self, _: &Job, _: &Result<Given, u32>, _: u64, _: u64) {}
 
     fn count(&mut self, expected: &Result<Given, u32>) {
         self.jobs += 1;
@@ -98,9 +93,6 @@ impl fmt::Display for Stacks {
         }
         if self.failed() && self.never_drawn() {
             write!(f, "  A STATUS, AN OUTCOME OR A WAY WAS NEVER DRAWN")?;
-        }
-        if !cfg!(feature = "stack") {
-            write!(f, "  (document 01 and the Rust alone)")?;
         }
         Ok(())
     }

@@ -3,7 +3,6 @@ pub mod exports;
 mod lookups;
 mod outputs;
 mod regions;
-#[cfg(feature = "stack")]
 pub mod stacks;
 
 use cases::call::Call::*;
