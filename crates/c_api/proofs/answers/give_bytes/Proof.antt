@@ -37,13 +37,13 @@ same-length : tie.Need-same-length Inv-loop μ-loop
 same-length c = ap length (c .before .before .loop .inv .2) ∙ copy-length (c .before .before .before .args .copy .now) (c .before .before .before .args .bytes .now) (c .before .before .loop .i) (omega arith) (omega arith)
 
 returns : tie.Need-returns Inv-loop μ-loop
-returns c = let e : (c .before .before .loop .i) ≡ length (c .before .before .before .args .copy .now) = omega (arith, ltb-false (c .before .before .loop .i) (length (c .before .before .before .args .copy .now)) (c .if1 .left)) in record { length = refl; copy = c .before .before .loop .inv .2 ∙ ap (λ (k : ℕ). put (c .before .before .before .args .copy .now) 0 (take k (c .before .before .before .args .bytes .now))) e }
+returns c = let e : (c .before .before .loop .i) ≡ length (c .before .before .before .args .copy .now) = omega (arith, ltb-false (c .before .before .loop .i) (length (c .before .before .before .args .copy .now)) (c .if1 .left)) in record { count = refl; copy = c .before .before .loop .inv .2 ∙ ap (λ (k : ℕ). put (c .before .before .before .args .copy .now) 0 (take k (c .before .before .before .args .bytes .now))) e }
 
 same-length-2 : tie.Need-same-length-2 Inv-loop μ-loop
 same-length-2 c = ap length (c .before .loop .inv .2) ∙ copy-length (c .before .before .args .copy .now) (c .before .before .args .bytes .now) (c .before .loop .i) (omega arith) (omega arith)
 
 returns-2 : tie.Need-returns-2 Inv-loop μ-loop
-returns-2 c = record { length = refl; copy = c .before .loop .inv .2 ∙ ap (put (c .before .before .args .copy .now) 0) (copy-all (c .before .before .args .copy .now) (c .before .before .args .bytes .now) (c .before .loop .i) (omega arith) (omega arith)) }
+returns-2 c = record { count = refl; copy = c .before .loop .inv .2 ∙ ap (put (c .before .before .args .copy .now) 0) (copy-all (c .before .before .args .copy .now) (c .before .before .args .bytes .now) (c .before .loop .i) (omega arith) (omega arith)) }
 
 pub give-bytes-spec : {M : Type 1} → statement M
 give-bytes-spec =
