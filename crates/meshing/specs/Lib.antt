@@ -1,0 +1,5 @@
+-- The definitions of meshing.
+pub mod Ring
+pub mod Triangles
+pub mod Clipping
+pub mod Ears

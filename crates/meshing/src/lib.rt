@@ -1,0 +1,1 @@
+// Meshes of regions (the original's meshing/src/lib.rs).
