@@ -7,3 +7,4 @@ pub mod Walks
 pub mod Demand
 pub mod Written
 pub mod Shapes
+pub mod RingLaws

@@ -1,4 +1,5 @@
 -- The definitions of meshing.
+pub mod Answers
 pub mod Ring
 pub mod Triangles
 pub mod Clipping

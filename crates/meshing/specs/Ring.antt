@@ -1,16 +1,19 @@
 -- Cleaning a ring: the places of the points that are kept.
-use Prim.Native.Nat.{ℕ, _+_, _-_}
+use Prim.Native.Nat.{ℕ, _-_, _≤_}
+use mathlib.Core.Path.{_≡_}
 use mathlib.Core.Bool.{Bool, _&&_, cond}
 use mathlib.Core.List.{List, [], _∷_, _++_}
 use lib.Dec.{ltb, leb, eqb}
 use lib.ListN.{length, getD, take}
 use lib.Ieee.{Float, nan, lt}
-use Rattle.lists.specs.Answer.{Answer, given, unless, andThen}
-use Rattle.lists.specs.Lists.{foldBelow, gather}
+use Rattle.lists.specs.Answer.{Answer, given, unless, andThen, mapAnswer, left}
+use Rattle.lists.specs.Lists.{foldBelow, put, gather, Below}
 use Rattle.binary64.specs.Numbers.{_⊖_, abs}
 use Rattle.binary64.specs.Constants.{tiny52}
 use Rattle.openrdson_core.specs.Points.{pointAt, ringFault}
 use Rattle.openrdson_core.specs.declared.points.Point.{Point}
+use Rattle.meshing.specs.Answers.{cleanedAnswer}
+use Rattle.meshing.specs.declared.ring.Cleaned.{Cleaned}
 
 -- the points differ by less than 2^-52 in x and in y
 abbrev pub isClose : Point → Point → Bool
@@ -40,3 +43,17 @@ module _ (xs ys : List Float) where
 -- the coordinates at the places
 abbrev pub gathered : List Float → List ℕ → List Float
 gathered l ks = gather nan l ks
+
+-- ---- what the code leaves behind
+
+-- the first count of the places are those that cleaning keeps
+pub record KeptIn (xs ys : List Float) (places : List ℕ) (count : ℕ) : Type 0 where
+  pub is : take count places ≡ kept xs ys
+  pub below : Below (length xs) (take count places)
+  pub within : count ≤ length xs
+
+-- What the call answers, and the lists ox and oy after it, ox′ and oy′: the coordinates kept stand over their start, and a refused call writes nothing.
+pub record CleanedAs (xs ys ox oy : List Float) (r : Cleaned) (ox′ oy′ : List Float) : Type 0 where
+  pub answer : cleanedAnswer r ≡ mapAnswer length (dedupRing xs ys (length ox) (length oy))
+  pub writes-x : ox′ ≡ left (mapAnswer (λ ks. put ox 0 (gathered xs ks)) (dedupRing xs ys (length ox) (length oy))) ox
+  pub writes-y : oy′ ≡ left (mapAnswer (λ ks. put oy 0 (gathered ys ks)) (dedupRing xs ys (length ox) (length oy))) oy
