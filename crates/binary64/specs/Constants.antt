@@ -10,3 +10,7 @@ two64 = ofBits binary64 0x4000_0000_0000_0000
 -- 1e-9
 abbrev pub tolerance9 : Float
 tolerance9 = ofBits binary64 0x3e11_2e0b_e826_d695
+
+-- 2^-52, the Rust's f64::EPSILON
+abbrev pub tiny52 : Float
+tiny52 = ofBits binary64 0x3cb0_0000_0000_0000

@@ -6,3 +6,4 @@ pub mod Scans
 pub mod Searches
 pub mod Places
 pub mod Parts
+pub mod Counts

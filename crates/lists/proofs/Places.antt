@@ -1,17 +1,27 @@
 -- Lists of places, the entries gathered at them, and neighbours on a ring. Assumes nothing.
-use mathlib.Core.Path.{_≡_, refl}
+use mathlib.Core.Path.{_≡_, refl, ap, _∙_}
 use mathlib.Core.Bool.{Bool, true, false, cond}
-use mathlib.Core.List.{List, [], _∷_}
-use Prim.Native.Nat.{ℕ, zero, suc, _+_, _-_, _<_}
-use native.Mathlib.Nat.{not-suc-le-zero, le-of-suc-le-suc}
+use mathlib.Core.List.{List, [], _∷_, _++_, map-append}
+use Prim.Native.Nat.{ℕ, zero, suc, _+_, _-_, _≤_, _<_}
+use native.Mathlib.Nat.{not-suc-le-zero, le-of-suc-le-suc, le-refl}
 use native.Mathlib.Omega.{arith}
 use lib.Dec.{ltb}
 use lib.ListN.{length, getD, take, length-map}
+use lib.Seq.{take-suc, take-length}
 use borrow.Author.Tests.{ltb-true, lt-ltb, le-ltb}
-use Rattle.lists.specs.Lists.{Below, gather, nextOf, prevOf}
+use Rattle.lists.specs.Lists.{runs, elems, Below, gather, nextOf, prevOf}
 
 pub gather-length : {A : Type 0} (other : A) (l : List A) (ks : List ℕ) → length (gather other l ks) ≡ length ks
 gather-length other l ks = length-map ks (λ k. getD l k other)
+
+-- a loop over the places gathers their entries
+gathers : {A : Type 0} (other : A) (l : List A) (ks : List ℕ) (n : ℕ) → n ≤ length ks → elems n (λ i. getD l (getD ks i 0) other) ≡ gather other l (take n ks)
+unfolding runs elems
+gathers other l ks zero h = refl
+gathers other l ks (suc n) h = rw (take-suc ks n 0 h, map-append, gathers other l ks n (omega arith))
+
+pub gather-elems : {A : Type 0} (other : A) (l : List A) (ks : List ℕ) → elems (length ks) (λ i. getD l (getD ks i 0) other) ≡ gather other l ks
+gather-elems other l ks = gathers other l ks (length ks) (le-refl (length ks)) ∙ ap (gather other l) (take-length ks)
 
 module _ (n : ℕ) where
   pub below-at : (ks : List ℕ) (i : ℕ) → Below n ks → i < length ks → getD ks i 0 < n
@@ -23,6 +33,10 @@ module _ (n : ℕ) where
   below-take ks zero b = tt
   below-take [] (suc m) b = tt
   below-take (k ∷ ks) (suc m) b = (b .0, below-take ks m (b .1))
+
+  pub below-more : (ks : List ℕ) (i : ℕ) → Below n ks → i < n → Below n (ks ++ i ∷ [])
+  below-more [] i b h = (h, tt)
+  below-more (k ∷ ks) i b h = (b .0, below-more ks i (b .1) h)
 
   -- the next place, inside the ring and at its end
   pub next-inside : (i : ℕ) → i + 1 < n → nextOf n i ≡ i + 1

@@ -1,9 +1,11 @@
 -- A loop that looks for the first place at which a test holds. Its invariant: `Searched test n i`, that none was found before place i.
 -- Assumes nothing.
-use mathlib.Core.Path.{_≡_, ap, _∙_}
+use mathlib.Core.Path.{_≡_, refl, sym, ap, _∙_}
 use mathlib.Core.Bool.{Bool, true, false, cond}
+use mathlib.Core.Logic.{⊎-elim}
 use mathlib.Core.Option.{some, none}
 use Prim.Native.Nat.{ℕ, zero, suc, _+_, _-_, _<_, _≤_}
+use native.Mathlib.Nat.{eq-or-lt-of-le}
 use native.Mathlib.Omega.{arith}
 use Rattle.lists.specs.Lists.{first}
 
@@ -39,3 +41,28 @@ first-below test (suc n) i k e = at (test i) e (first-below test n (i + 1) k)
     at : (b : Bool) → cond b (some i) (first test n (i + 1)) ≡ some k → (first test n (i + 1) ≡ some k → k < i + 1 + n) → k < i + suc n
     at true e later = let z : i ≡ k = cc in omega arith
     at false e later = omega (arith, later e)
+
+-- j is the first of the n places from i on at which the test holds
+pub record First (test : ℕ → Bool) (n i j : ℕ) : Type 0 where
+  pub from : i ≤ j
+  pub below : j < i + n
+  pub holds : test j ≡ true
+  pub earlier : (l : ℕ) → i ≤ l → l < j → test l ≡ false
+
+pub first-is : (test : ℕ → Bool) (n i j : ℕ) → first test n i ≡ some j → First test n i j
+unfolding first
+first-is test zero i j e = let z : _≡_ {A = ℕ} 0 1 = cc in absurd (omega arith)
+first-is test (suc n) i j e = at (test i) refl e (first-is test n (i + 1) j)
+  where
+    at : (b : Bool) → test i ≡ b → cond b (some i) (first test n (i + 1)) ≡ some j → (first test n (i + 1) ≡ some j → First test n (i + 1) j) → First test (suc n) i j
+    at true t e later =
+        let h : i ≡ j = cc in
+        record { from = omega arith; below = omega arith; holds = ap test (sym h) ∙ t; earlier = λ l p q. absurd (omega arith) }
+    at false t e later =
+        let r = later e in
+        record {
+          from = omega arith;
+          below = omega arith;
+          holds = r .holds;
+          earlier = λ l p q. ⊎-elim (λ (h : i ≡ l). ap test (sym h) ∙ t) (λ h. r .earlier l (omega arith) q) (eq-or-lt-of-le p);
+        }

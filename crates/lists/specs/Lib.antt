@@ -1,3 +1,4 @@
 -- The definitions that every crate's contracts cite.
 pub mod Answer
 pub mod Lists
+pub mod Counts

@@ -1,0 +1,74 @@
+-- Sums and counts over a list. Assumes nothing.
+use mathlib.Core.Path.{_≡_, refl, ap}
+use mathlib.Core.Bool.{Bool, true, false, _&&_}
+use mathlib.Core.List.{List, [], _∷_, _++_, reverse, reverseAux}
+use Prim.Native.Nat.{ℕ, zero, suc, _+_, _≤_}
+use native.Mathlib.Omega.{arith}
+use lib.Dec.{eqb}
+use borrow.Author.Tests.{eqb-true}
+use Rattle.lists.specs.Counts.{bit, total, occurs}
+use Rattle.lists.specs.Lists.{runs, elems}
+
+module _ {A : Type 0} where
+  module _ (f : A → ℕ) where
+    pub total-append : (s t : List A) → total f (s ++ t) ≡ total f s + total f t
+    total-append [] t = omega arith
+    total-append (x ∷ s) t = omega (arith, total-append s t)
+
+    total-reverseAux : (s t : List A) → total f (reverseAux s t) ≡ total f s + total f t
+    total-reverseAux [] t = omega arith
+    total-reverseAux (x ∷ s) t = omega (arith, total-reverseAux s (x ∷ t))
+
+    pub total-reverse : (s : List A) → total f (reverse s) ≡ total f s
+    total-reverse s = omega (arith, total-reverseAux s [])
+
+  -- weights that agree sum to the same
+  pub total-same : (f g : A → ℕ) → ((x : A) → f x ≡ g x) → (l : List A) → total f l ≡ total g l
+  total-same f g each [] = refl
+  total-same f g each (x ∷ l) = omega (arith, each x, total-same f g each l)
+
+-- ---- tests as numbers
+
+pub and-left : (x y : Bool) → bit (x && y) ≤ bit x
+and-left true true = omega arith
+and-left true false = omega arith
+and-left false y = omega arith
+
+pub and-right : (x y : Bool) → bit (x && y) ≤ bit y
+and-right true y = omega arith
+and-right false y = omega arith
+
+pub and-comm : (x y : Bool) → (x && y) ≡ (y && x)
+and-comm true true = refl
+and-comm true false = refl
+and-comm false true = refl
+and-comm false false = refl
+
+pub bit-differs : (a u : ℕ) → (a ≡ u → ⊥) → bit (eqb a u) ≡ 0
+bit-differs a u ne = at (eqb a u) refl
+  where
+    at : (b : Bool) → eqb a u ≡ b → bit b ≡ 0
+    at true e = absurd (ne (eqb-true a u e))
+    at false e = refl
+
+-- ---- the numbers below n, each once
+
+occurs-more : (u n : ℕ) → occurs u (elems (suc n) (λ i. i)) ≡ occurs u (elems n (λ i. i)) + bit (eqb n u)
+unfolding runs elems
+occurs-more u n = omega (arith, total-append (λ a. bit (eqb a u)) (elems n (λ i. i)) (n ∷ []))
+
+-- none past them
+pub occurs-past : (u n : ℕ) → n ≤ u → occurs u (elems n (λ i. i)) ≡ 0
+unfolding runs elems
+occurs-past u zero h = refl
+occurs-past u (suc n) h = omega (arith, occurs-more u n, bit-differs n u (omega arith), occurs-past u n (omega arith))
+
+-- and none twice
+pub occurs-once : (u n : ℕ) → occurs u (elems n (λ i. i)) ≤ 1
+unfolding runs elems
+occurs-once u zero = omega arith
+occurs-once u (suc n) = at (eqb n u) refl (occurs-once u n)
+  where
+    at : (b : Bool) → eqb n u ≡ b → occurs u (elems n (λ i. i)) ≤ 1 → occurs u (elems (suc n) (λ i. i)) ≤ 1
+    at true e h = let is : n ≡ u = eqb-true n u e in omega (arith, occurs-more u n, occurs-past u n (omega arith), ap bit e)
+    at false e h = omega (arith, occurs-more u n, ap bit e)

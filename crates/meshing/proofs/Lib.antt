@@ -1,0 +1,10 @@
+-- Laws about the definitions of meshing.
+pub mod Counting
+pub mod Around
+pub mod Clipped
+pub mod Cutting
+pub mod Walks
+pub mod Demand
+pub mod Written
+pub mod Shapes
+pub mod RingLaws

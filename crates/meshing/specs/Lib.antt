@@ -1,0 +1,6 @@
+-- The definitions of meshing.
+pub mod Answers
+pub mod Ring
+pub mod Triangles
+pub mod Clipping
+pub mod Ears

@@ -1,0 +1,5 @@
+// Meshes of regions (the original's meshing/src/lib.rs).
+mod ring;
+
+pub use ring::Cleaned;
+pub use ring::dedup_ring;
