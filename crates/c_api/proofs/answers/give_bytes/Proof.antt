@@ -5,7 +5,7 @@ use mathlib.Core.Path.{_≡_, refl, ap, _∙_}
 use borrow.Author.Tests.{ltb-true, ltb-false}
 use lib.ListN.{length, take, getD, set}
 use Rattle.lists.specs.Lists.{put}
-use Rattle.c_api.proofs.Copies.{copy-none, copy-more, copy-length, copy-all}
+use Rattle.lists.proofs.Copies.{copy-none, copy-more, copy-length, copy-all}
 use Rattle.c_api.proofs.answers.give_bytes.Statement.{statement}
 use Rattle.c_api.proofs.answers.give_bytes.Tie as tie
 
@@ -31,7 +31,7 @@ loop-less : tie.Need-loop-less Inv-loop μ-loop
 loop-less c = omega arith
 
 loop-again : tie.Need-loop-again Inv-loop μ-loop
-loop-again c = (omega arith, omega (arith, ltb-true (c .before .before .before .loop .i) (length (c .before .before .before .before .args .copy .now)) (c .before .if1 .taken)), ap (λ l. set l (c .before .before .before .loop .i) (getD (c .before .before .before .before .args .bytes .now) (c .before .before .before .loop .i) 0)) (c .before .before .before .loop .inv .2) ∙ copy-more (c .before .before .before .before .args .copy .now) (c .before .before .before .before .args .bytes .now) (c .before .before .before .loop .i) (omega arith) (omega (arith, ltb-true (c .before .before .before .loop .i) (length (c .before .before .before .before .args .copy .now)) (c .before .if1 .taken))))
+loop-again c = (omega arith, omega (arith, ltb-true (c .before .before .before .loop .i) (length (c .before .before .before .before .args .copy .now)) (c .before .if1 .taken)), ap (λ l. set l (c .before .before .before .loop .i) (getD (c .before .before .before .before .args .bytes .now) (c .before .before .before .loop .i) 0)) (c .before .before .before .loop .inv .2) ∙ copy-more (c .before .before .before .before .args .copy .now) (c .before .before .before .before .args .bytes .now) 0 (c .before .before .before .loop .i) (omega arith) (omega (arith, ltb-true (c .before .before .before .loop .i) (length (c .before .before .before .before .args .copy .now)) (c .before .if1 .taken))))
 
 same-length : tie.Need-same-length Inv-loop μ-loop
 same-length c = ap length (c .before .before .loop .inv .2) ∙ copy-length (c .before .before .before .args .copy .now) (c .before .before .before .args .bytes .now) (c .before .before .loop .i) (omega arith) (omega arith)
