@@ -55,7 +55,7 @@ pub struct Keys {
 
 impl Keys {
     pub fn of(kind: Kind, sound: &[u8], copy: &[u8]) -> Keys {
-        let mut keys = Keys { names: vec![vec![], b"none".to_vec(), vec![b'n'; 33]], layers: vec![0, 2, -2, 32767] };
+        let mut keys = Keys { names: vec![vec![], b"none".to_vec()], layers: vec![0, 2] };
         for block in [sound, copy] {
             let rows = block[block.len().min(2)..].chunks_exact(kind.widths().0).take(sound[0] as usize);
             for key in rows {

@@ -50,7 +50,7 @@ fn main() -> ExitCode {
 impl Held {
     fn block(&mut self, kind: Kind, rows: &Rows) {
         let sound = rows.bytes();
-        let (mut zeros, mut ones, mut itself) = (Amid::new(&[0]), Amid::new(&[255]), Amid::new(&sound));
+        let (mut zeros, mut ones, mut itself) = (Amid::new(&[0; 256]), Amid::new(&[255; 256]), Amid::new(&sound));
         let (mut past, mut before) = (Guarded::new(), Guarded::new());
         let (mut asks, mut job) = (asked::calls(kind), stacking::job());
         for change in changes::all(kind, &sound, rows.count()) {
@@ -78,8 +78,8 @@ impl Held {
             ask.set(keys, time);
             let expected = expected::answer(&ask.case);
             self.by_status[expected.status as usize] += 1;
+            let mut lent: Vec<&[u8]> = ask.case.lent.iter().map(|lent| &*lent.bytes).collect();
             for (place, copy) in PLACES.iter().zip(places) {
-                let mut lent: Vec<&[u8]> = ask.case.lent.iter().map(|lent| &*lent.bytes).collect();
                 lent[ask.place] = copy;
                 let said = rattle::answer_on(&ask.case, &lent);
                 if said.answer != expected || said.stray {
