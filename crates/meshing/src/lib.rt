@@ -1,5 +1,7 @@
 // Meshes of regions (the original's meshing/src/lib.rs).
 mod ring;
+mod triangulate;
 
 pub use ring::Cleaned;
 pub use ring::dedup_ring;
+pub use triangulate::Triangulated;
