@@ -11,4 +11,5 @@ cd host
 cargo build --quiet --release --offline --locked
 "$CARGO_TARGET_DIR/release/differences"
 "$CARGO_TARGET_DIR/release/record" --check
+"$CARGO_TARGET_DIR/release/copies"
 "$CARGO_TARGET_DIR/release/compare" "$@"

@@ -5,7 +5,7 @@ use mathlib.Core.Bool.{Bool}
 use mathlib.Core.List.{List}
 use Rattle.lists.specs.Answer as answer
 use Rattle.openrdson_core.specs.Layout.{namePartAnswer, namePartWithin}
-use Rattle.openrdson_core.specs.Maps.{placed, placeWithin, spanned, spanWithin}
+use Rattle.openrdson_core.specs.Maps.{placed, placeWithin, askedFirst, spanned, spanWithin}
 use Rattle.openrdson_core.specs.Tech.{viaLayersAnswer, viaLayersWithin}
 use Rattle.openrdson_core.specs.declared.layout.NamePart.{NamePart}
 use Rattle.openrdson_core.specs.declared.layout.NamePart.the-variants as named
@@ -37,11 +37,11 @@ pub span-stands : (block : List ℕ) (s : Span) → spanWithin block s → spec.
 span-stands block (span.Part start count) w = (refl, w)
 span-stands block span.Empty w = refl
 
-pub name-stands : (conducting via : List ℕ) (p : NamePlace) → placeWithin conducting via p → Agree (spec.NameStands conducting via) (placed conducting via p) (spec.nameAnswer p)
-name-stands conducting via (place.Conducting start count) w = (refl, w)
-name-stands conducting via (place.Via start count) w = (refl, w)
-name-stands conducting via place.Nothing w = refl
-name-stands conducting via (place.Refused why) w = refl
+pub name-stands : (conducting via asked : List ℕ) (p : NamePlace) → placeWithin conducting via p → askedFirst conducting asked p → Agree (spec.NameStands conducting via asked) (placed conducting via p) (spec.nameAnswer p)
+name-stands conducting via asked (place.Conducting start count) w f = (f, (refl, w))
+name-stands conducting via asked (place.Via start count) w f = (f, (refl, w))
+name-stands conducting via asked place.Nothing w f = refl
+name-stands conducting via asked (place.Refused why) w f = refl
 
 pub part-stands : (names : List ℕ) (p : NamePart) → namePartWithin names p → Agree (spec.StandsIf names) (namePartAnswer names p) (spec.partAnswer p)
 part-stands names (named.Part start count) w = (refl, w)

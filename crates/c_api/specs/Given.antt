@@ -2,8 +2,7 @@
 use Prim.Native.Nat.{ℕ}
 use mathlib.Core.Path.{_≡_}
 use mathlib.Core.List.{List}
-use lib.ListN.{take}
-use lib.ListN as list
+use lib.ListN.{length, take}
 use Rattle.lists.specs.Answer as answer
 use Rattle.lists.specs.Lists.{put}
 
@@ -24,5 +23,5 @@ pub record GivenAs {A B : Type 0} (says : A → B → Type 0) (a : answer.Answer
 
 -- Bytes copied to a lent list: r is how many there are; the list begins with as many of them as it has room for, and is as it was past them.
 pub record Copied (bytes : List ℕ) (r : ℕ) (old new : List ℕ) : Type 0 where
-  pub length : r ≡ list.length bytes
-  pub copy : new ≡ put old 0 (take (list.length old) bytes)
+  pub count : r ≡ length bytes
+  pub copy : new ≡ put old 0 (take (length old) bytes)

@@ -10,6 +10,7 @@ use Rattle.lists.specs.Answer.{Answer, refused, given}
 use Rattle.lists.specs.Lists.{part}
 use Rattle.binary64.specs.Constants.{zero64}
 use Rattle.openrdson_core.specs.Refusals.{refusalNumber}
+use Rattle.openrdson_core.specs.Maps.{inMap, isSome}
 use Rattle.openrdson_core.specs.Tech.{StackFigures, ViaNames}
 use Rattle.openrdson_core.specs.declared.layout.NamePart.{NamePart}
 use Rattle.openrdson_core.specs.declared.layout.NamePart.the-variants as named
@@ -64,17 +65,17 @@ pub record NameAt : Type 0 where
 abbrev pub theName : ℕ → ℕ → ℕ → NameAt
 theName b s n = record { block = b; places = thePlaces s n }
 
--- the name stands in the block with this number; there are two
-abbrev pub StandsIn : List ℕ → List ℕ → List ℕ → ℕ → Places → Type 0
-StandsIn conducting via name zero p = ⊥
-StandsIn conducting via name (suc zero) p = Stands conducting name p
-StandsIn conducting via name (suc (suc zero)) p = Stands via name p
-StandsIn conducting via name (suc (suc (suc n))) p = ⊥
+-- the name stands in the block with this number; there are two, and it is the via map only where the conducting map has none for the name asked
+abbrev pub StandsIn : List ℕ → List ℕ → List ℕ → List ℕ → ℕ → Places → Type 0
+StandsIn conducting via asked name zero p = ⊥
+StandsIn conducting via asked name (suc zero) p = (isSome (inMap conducting asked) ≡ true) × Stands conducting name p
+StandsIn conducting via asked name (suc (suc zero)) p = (isSome (inMap conducting asked) ≡ false) × Stands via name p
+StandsIn conducting via asked name (suc (suc (suc n))) p = ⊥
 
 -- all numbers are 0 for none
-abbrev pub NameStands : List ℕ → List ℕ → Option (List ℕ) → NameAt → Type 0
-NameStands conducting via none a = a ≡ theName 0 0 0
-NameStands conducting via (some name) a = StandsIn conducting via name (a .block) (a .places)
+abbrev pub NameStands : List ℕ → List ℕ → List ℕ → Option (List ℕ) → NameAt → Type 0
+NameStands conducting via asked none a = a ≡ theName 0 0 0
+NameStands conducting via asked (some name) a = StandsIn conducting via asked name (a .block) (a .places)
 
 abbrev pub nameAnswer : NamePlace → Answer NameAt
 nameAnswer (place.Conducting start count) = given (theName 1 start count)

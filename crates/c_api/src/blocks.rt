@@ -73,7 +73,7 @@ pub extern "C" fn openrdson_physical_name(
     start: &mut usize,
     length: &mut usize,
 ) -> u32
-    ensures { λ r. ⌜ GivenAs (spec.NameStands (now (conducting .entry)) (now (via .entry))) (lookup (now (conducting .entry)) (now (via .entry)) (now (name .entry))) r (spec.theName (now (block .entry)) (now (start .entry)) (now (length .entry))) (spec.theName (now (block .exit)) (now (start .exit)) (now (length .exit))) ⌝ }
+    ensures { λ r. ⌜ GivenAs (spec.NameStands (now (conducting .entry)) (now (via .entry)) (now (name .entry))) (lookup (now (conducting .entry)) (now (via .entry)) (now (name .entry))) r (spec.theName (now (block .entry)) (now (start .entry)) (now (length .entry))) (spec.theName (now (block .exit)) (now (start .exit)) (now (length .exit))) ⌝ }
 {
     give_name(
         openrdson_core::name_place(conducting, via, name),

@@ -10,3 +10,4 @@ pub mod RowLaws
 pub mod StackLaws
 pub mod AssembleLaws
 pub mod GeometryShapes
+pub mod StackShapes

@@ -1,7 +1,7 @@
 -- Rows written in a region list. Assumes nothing.
 use Prim.Native.Nat.{ℕ, _+_, _≤_, _<_}
-use mathlib.Core.Path.{_≡_, refl, sym, ap, _∙_, subst}
-use mathlib.Core.List.{List, [], _∷_, _++_, map}
+use mathlib.Core.Path.{_≡_, sym, ap, _∙_, subst}
+use mathlib.Core.List.{List, [], _∷_, _++_, map, map-append}
 use native.Mathlib.Omega.{arith}
 use native.Mathlib.Nat.{zero-add}
 use lib.ListN.{length, set, length-map}
@@ -38,16 +38,12 @@ same-regions p1 p2 p3 p4 p5 p6 p7 p8 p9 p10 p11 p12 = cc
 
 -- ---- runs of rows
 
-map-join : {A B : Type 0} (f : A → B) (a b : List A) → map f (a ++ b) ≡ map f a ++ map f b
-map-join f [] b = refl
-map-join f (x ∷ a) b = ap (λ (l : List _). f x ∷ l) (map-join f a b)
-
 -- what a list has, a further run of rows, and its length
 column-more : {A : Type 0} (f : SolidRegion → A) (l : List A) (a b : List SolidRegion) (k : ℕ) → k ≡ length a → k + length b ≤ length l
     → put (put l 0 (map f a)) k (map f b) ≡ put l 0 (map f (a ++ b))
 column-more f l a b k e h =
     put-more l 0 (map f a) (map f b) k (e ∙ sym (length-map a f) ∙ sym (zero-add (length (map f a)))) (omega (arith, length-map b f))
-    ∙ ap (put l 0) (sym (map-join f a b))
+    ∙ ap (put l 0) (sym (map-append f a b))
 
 column-length : {A : Type 0} (f : SolidRegion → A) (l : List A) (a : List SolidRegion) → length a ≤ length l → length (put l 0 (map f a)) ≡ length l
 column-length f l a h = put-length l 0 (map f a) (omega (arith, length-map a f))

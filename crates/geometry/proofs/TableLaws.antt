@@ -1,20 +1,15 @@
 -- The table of plans. Assumes nothing.
-use Prim.Native.Nat.{ℕ, zero, suc, _+_, _≤_, _<_}
-use mathlib.Core.Path.{_≡_, refl, sym, ap, _∙_}
+use Prim.Native.Nat.{ℕ, _<_}
+use mathlib.Core.Path.{_≡_, refl}
 use mathlib.Core.Bool.{Bool, true, false, cond}
-use mathlib.Core.Logic.{inl, inr}
-use mathlib.Core.List.{List, [], _∷_, _++_}
+use mathlib.Core.List.{List}
 use mathlib.Core.Option.{Option, some, none, Option·map, orElse}
-use native.Mathlib.Nat.{eq-or-lt-of-le}
 use native.Mathlib.Omega.{arith}
 use lib.Dec.{eqb}
 use lib.IntN.{ℤ}
-use lib.ListN.{length, getD, drop, List·getD-append}
-use lib.Seq.{getD-at}
 use lib.Ieee.{Float, nan, le}
 use borrow.Author.Tests.{ne-eqb}
-use Rattle.lists.specs.Lists.{put, runs, elems}
-use Rattle.lists.proofs.Fills.{elems-length}
+use Rattle.lists.proofs.Fills.{put-at}
 use Rattle.openrdson_core.specs.Bytes.{unpad}
 use Rattle.openrdson_core.specs.Blocks.{count, valueAt}
 use Rattle.openrdson_core.specs.Maps.{inMap}
@@ -32,26 +27,6 @@ use Rattle.geometry.specs.declared.plans.Plan.the-variants.{Skipped, Bet
 -- four equal lists are equal tables
 pub same-table : {a a′ : List ℕ} {b b′ c c′ : List Float} {d d′ : List ℕ} → a ≡ a′ → b ≡ b′ → c ≡ c′ → d ≡ d′ → theTable a b c d ≡ theTable a′ b′ c′ d′
 same-table e f g h = cc
-
--- ---- an entry of a filled list
-
-elems-suc : {A : Type 0} (f : ℕ → A) (n : ℕ) → elems (suc n) f ≡ elems n f ++ (f n ∷ [])
-unfolding elems runs
-elems-suc f n = refl
-
-elems-at : {A : Type 0} (f : ℕ → A) (other : A) (n i : ℕ) → i < n → getD (elems n f) i other ≡ f i
-elems-at f other zero i h = absurd (omega arith)
-elems-at f other (suc n) i h =
-    let l : i ≤ n = omega arith in
-    ap (λ (e : List _). getD e i other) (elems-suc f n)
-    ∙ elim (eq-or-lt-of-le l) [
-      | inl g ↦ getD-at (elems n f) (f n) [] other i (elems-length f n ∙ sym g) ∙ ap f (sym g)
-      | inr g ↦ List·getD-append (elems n f) (f n ∷ []) other i (omega (arith, elems-length f n)) ∙ elems-at f other n i g
-    ]
-
-put-at : {A : Type 0} (l : List A) (f : ℕ → A) (other : A) (n i : ℕ) → i < n → getD (put l 0 (elems n f)) i other ≡ f i
-unfolding put
-put-at l f other n i h = List·getD-append (elems n f) (drop (0 + length (elems n f)) l) other i (omega (arith, elems-length f n)) ∙ elems-at f other n i h
 
 -- ---- a plan read back: none has outcome 0 without a region
 

@@ -44,7 +44,7 @@ fn plan_of_physical(
     }
 }
 
-// The plan for a logical name.
+// The plan for a logical name. For a caller that has checked the six blocks.
 pub fn plan_of_name(
     names: &[u8],
     conducting: &[u8],

@@ -42,7 +42,7 @@ fn polygon_check(start: u32, count: u32, xs: &[f64], ys: &[f64]) -> Check
     ring_check(&xs[first..end], &ys[first..end])
 }
 
-// Whether anything is against a polygon, the first of them deciding.
+// Whether anything is against a polygon, the first of them deciding. For a caller that has found the two lists of points equally long, and the starts as many as the counts.
 pub fn polygons_check(starts: &[u32], counts: &[u32], xs: &[f64], ys: &[f64]) -> Check
     requires { ⌜ (length (now xs) ≡ length (now ys)) × (length (now counts) ≡ length (now starts)) ⌝ }
     ensures { λ r. ⌜ checkAnswer r ≡ spec.partsFault (now (xs .entry)) (now (ys .entry)) (now (starts .entry)) (now (counts .entry)) (length (now (starts .entry))) ⌝ }
@@ -58,7 +58,7 @@ pub fn polygons_check(starts: &[u32], counts: &[u32], xs: &[f64], ys: &[f64]) ->
     Check::Fine
 }
 
-// The solid of a checked polygon between two heights.
+// The solid of a polygon between two heights. For a caller that has found the two lists of points equally long, and nothing against the polygon.
 pub fn polygon_solid(
     start: u32,
     count: u32,

@@ -83,7 +83,7 @@ fn between(bottom: ZRange, top: ZRange) -> ZRange
     }
 }
 
-// The range of a physical name: by the via rule where it is a via's.
+// The range of a physical name: by the via rule where it is a via's. For a caller that has checked the three blocks.
 pub fn stack_range(conductors: &[u8], diffusions: &[u8], vias: &[u8], name: &[u8]) -> ZRange
     requires { ⌜ (stackOk (now conductors) ≡ true) × (stackOk (now diffusions) ≡ true) × (viasOk (now vias) ≡ true) ⌝ }
     ensures { λ r. ⌜ spec.rangeValue r ≡ spec.stackRange (now (conductors .entry)) (now (diffusions .entry)) (now (vias .entry)) (now (name .entry)) ⌝ }

@@ -91,7 +91,7 @@ fn part_of(solid: Solid) -> Part
     }
 }
 
-// Writes the region as row k. The lists are equally long, and have row k.
+// Writes the region as row k. For a caller that has found the lists equally long, and row k in them.
 pub fn put_region(
     kinds: &mut [u8],
     min_x: &mut [f64],

@@ -64,7 +64,7 @@ impl Plan {
     }
 }
 
-// Fills the lists with the plans of all rows.
+// Fills the lists with the plans of all rows. For a caller that has checked the six blocks, and lends lists of at least 256 entries.
 pub fn fill_plans(
     names: &[u8],
     conducting: &[u8],
@@ -106,7 +106,7 @@ fn plan_at(outcomes: &[u8], z_bottom: &[f64], z_top: &[f64], materials: &[u32], 
     Plan::Skipped(outcome)
 }
 
-// The plan of a layer, by the row that has its number.
+// The plan of a layer, by the row that has its number. For a caller that has checked the layer names, and lends lists of at least 256 entries.
 pub fn plan_of_layer(
     names: &[u8],
     outcomes: &[u8],

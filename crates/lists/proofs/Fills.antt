@@ -5,21 +5,32 @@
 --     put-set       one element stored right after: the same for a run of one
 --     put-sets      a run of stores, as straight-line code leaves it
 --     runs-more, elems-more     one more run, one more element, at the code's n + 1
+--     put-whole                 a run as long as the list
+--     elems-same, elems-front   equal elements; the first and the others
+--     elems-at, put-at          an entry of what was written
 -- Assumes nothing.
 use mathlib.Core.Path.{_≡_, refl, sym, ap, _∙_}
 use mathlib.Core.List.{List, [], _∷_, _++_, append-assoc, append-nil}
+use mathlib.Core.Logic.{inl, inr}
 use Prim.Native.Nat.{ℕ, zero, suc, _+_, _*_, _≤_, _<_}
-use native.Mathlib.Nat.{add-zero, suc-mul, zero-mul, one-mul, add-mul, mul-le-mul-right}
+use native.Mathlib.Nat.{add-zero, suc-mul, zero-mul, one-mul, add-mul, mul-le-mul-right, eq-or-lt-of-le}
 use native.Mathlib.Numerals.{add-one, add-two, add-three, add-four, add-five, add-six, add-seven}
 use native.Mathlib.Omega.{arith}
-use lib.ListN.{length, take, drop, set, length-append, length-drop, length-set, take-append-drop}
-use lib.Seq.{length-take-le, take-at, drop-at, drop-drop, sets, sets-eq}
+use lib.ListN.{length, take, drop, getD, set, length-append, length-drop, length-set, take-append-drop, drop-of-length-le, List·getD-append}
+use lib.Seq.{length-take-le, getD-at, take-at, drop-at, drop-drop, sets, sets-eq}
 use Rattle.lists.specs.Lists.{put, runs, elems}
 
 module _ {A : Type 0} where
   pub put-none : (l : List A) (at : ℕ) → put l at [] ≡ l
   unfolding put
   put-none l at = rw (add-zero, append-nil, take-append-drop)
+
+  -- a run as long as the list
+  pub put-whole : (l new : List A) → length new ≡ length l → put l 0 new ≡ new
+  unfolding put
+  put-whole l new e =
+      let past : length l ≤ 0 + length new = omega (arith, e) in
+      rw (drop-of-length-le l past) (append-nil new)
 
   head-length : (l : List A) (at : ℕ) (new : List A) → at + length new ≤ length l → length (take at l ++ new) ≡ at + length new
   head-length l at new h = rw (length-append, length-take-le at l (omega arith))
@@ -71,6 +82,45 @@ module _ {A : Type 0} where
   pub elems-length : (f : ℕ → A) (n : ℕ) → length (elems n f) ≡ n
   unfolding elems
   elems-length f n = runs-length (λ i. f i ∷ []) 1 (λ i. refl) n ∙ omega arith
+
+  elems-none : (f : ℕ → A) → elems 0 f ≡ []
+  unfolding elems runs
+  elems-none f = refl
+
+  pub elems-suc : (f : ℕ → A) (n : ℕ) → elems (suc n) f ≡ elems n f ++ (f n ∷ [])
+  unfolding elems runs
+  elems-suc f n = refl
+
+  pub elems-same : (f g : ℕ → A) (n : ℕ) → ((i : ℕ) → i < n → f i ≡ g i) → elems n f ≡ elems n g
+  elems-same f g zero h = elems-none f ∙ sym (elems-none g)
+  elems-same f g (suc n) h =
+      elems-suc f n
+      ∙ ap (λ (l : List A). l ++ (f n ∷ [])) (elems-same f g n (λ i l. h i (omega arith)))
+      ∙ ap (λ (x : A). elems n g ++ (x ∷ [])) (h n (omega arith))
+      ∙ sym (elems-suc g n)
+
+  -- the first element, and the others
+  pub elems-front : (f : ℕ → A) (n : ℕ) → elems (suc n) f ≡ f 0 ∷ elems n (λ i. f (suc i))
+  elems-front f zero = elems-suc f 0 ∙ ap (λ (l : List A). l ++ (f 0 ∷ [])) (elems-none f) ∙ ap (λ (l : List A). f 0 ∷ l) (sym (elems-none (λ i. f (suc i))))
+  elems-front f (suc n) =
+      elems-suc f (suc n)
+      ∙ ap (λ (l : List A). l ++ (f (suc n) ∷ [])) (elems-front f n)
+      ∙ ap (λ (l : List A). f 0 ∷ l) (sym (elems-suc (λ i. f (suc i)) n))
+
+  pub elems-at : (f : ℕ → A) (other : A) (n i : ℕ) → i < n → getD (elems n f) i other ≡ f i
+  elems-at f other zero i h = absurd (omega arith)
+  elems-at f other (suc n) i h =
+      let l : i ≤ n = omega arith in
+      ap (λ (e : List A). getD e i other) (elems-suc f n)
+      ∙ elim (eq-or-lt-of-le l) [
+        | inl g ↦ getD-at (elems n f) (f n) [] other i (elems-length f n ∙ sym g) ∙ ap f (sym g)
+        | inr g ↦ List·getD-append (elems n f) (f n ∷ []) other i (omega (arith, elems-length f n)) ∙ elems-at f other n i g
+      ]
+
+  pub put-at : (l : List A) (f : ℕ → A) (other : A) (n i : ℕ) → i < n → getD (put l 0 (elems n f)) i other ≡ f i
+  unfolding put
+  put-at l f other n i h =
+      List·getD-append (elems n f) (drop (0 + length (elems n f)) l) other i (omega (arith, elems-length f n)) ∙ elems-at f other n i h
 
   -- a turn of the loop that writes run n, w long, at place p: from n runs to n + 1
   pub fill-run : (l : List A) (at : ℕ) (f : ℕ → List A) (w : ℕ) → ((i : ℕ) → length (f i) ≡ w) → (n p : ℕ)

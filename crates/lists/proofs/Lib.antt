@@ -1,6 +1,7 @@
 -- Laws of the definitions, cited by the crates above: one file a kind of loop, and one of answers.
 pub mod Answers
 pub mod Fills
+pub mod Copies
 pub mod Folds
 pub mod Scans
 pub mod Searches

@@ -1,5 +1,6 @@
 -- The name lookup: the conducting map is asked first, then the via map.
 use Prim.Native.Nat.{ℕ, _+_, _≤_}
+use mathlib.Core.Path.{_≡_}
 use mathlib.Core.Bool.{Bool, true, false}
 use mathlib.Core.List.{List, []}
 use mathlib.Core.Option.{Option, some, none, Option·map, orElse}
@@ -63,6 +64,13 @@ placeWithin conducting via (place.Conducting start count) = start + count ≤ le
 placeWithin conducting via (place.Via start count) = start + count ≤ length via
 placeWithin conducting via place.Nothing = Unit
 placeWithin conducting via (place.Refused why) = Unit
+
+-- the conducting map is asked first: a place in it means that it has the name, a place in the via map that it has none
+abbrev pub askedFirst : List ℕ → List ℕ → NamePlace → Type 0
+askedFirst conducting name (place.Conducting start count) = isSome (inMap conducting name) ≡ true
+askedFirst conducting name (place.Via start count) = isSome (inMap conducting name) ≡ false
+askedFirst conducting name place.Nothing = Unit
+askedFirst conducting name (place.Refused why) = Unit
 
 abbrev pub lookupAnswer : Lookup → Answer Bool
 lookupAnswer found.Found = given true

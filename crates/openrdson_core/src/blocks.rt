@@ -170,7 +170,7 @@ pub fn is_block(s: &[u8], key: Cell, value: Cell, once: bool) -> bool
     are_distinct(s, k, n)
 }
 
-// How many rows a block counts. It is `pub` for the modules that look names up, and requires the two bytes of the count.
+// How many rows a block counts. For a caller that has found the two bytes of the count.
 pub fn rows(s: &[u8]) -> usize
     requires { ⌜ 2 ≤ length (now s) ⌝ }
     ensures { λ r. ⌜ r ≡ spec.count (now (s .entry)) ⌝ }

@@ -66,7 +66,7 @@ fn wide(x: u8) -> u64
     x as u64
 }
 
-// The number that little-endian bytes stand for. It is `pub` for the modules that read blocks, and requires at most eight bytes, so that the number is a u64.
+// The number that little-endian bytes stand for. For a caller that has at most eight bytes, so that the number is a u64.
 pub fn little(c: &[u8]) -> u64
     requires { ⌜ length (now c) ≤ 8 ⌝ }
     ensures { λ r. ⌜ r ≡ spec.little (now (c .entry)) ⌝ }

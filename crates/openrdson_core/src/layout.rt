@@ -62,7 +62,7 @@ fn find_pattern(s: &[u8], bits: u64) -> Row
     Row::Nowhere
 }
 
-// The first row whose number is a layer's. For a block that has been checked.
+// The first row whose number is a layer's. It is `pub` for the crate above, which has checked the block.
 pub fn find_layer(s: &[u8], layer: i16) -> Row
     requires { ⌜ layerNamesOk (now s) ≡ true ⌝ }
     ensures { λ r. ⌜ rowAnswer r ≡ spec.rowOfPattern (now (s .entry)) (spec.patternOf layer) ⌝ }
@@ -70,7 +70,7 @@ pub fn find_layer(s: &[u8], layer: i16) -> Row
     find_pattern(s, pattern(layer))
 }
 
-// The logical name of row i, without its padding. For a block that has been checked, and a row of it.
+// The logical name of row i, without its padding. It is `pub` for the crate above, which has checked the block and found row i in it.
 pub fn layer_name_at(s: &[u8], i: usize) -> &[u8]
     requires { ⌜ (layerNamesOk (now s) ≡ true) × (i < count (now s)) ⌝ }
     ensures { λ r. ⌜ now r ≡ unpad (valueAt Cell.Number Cell.Name (now (s .entry)) i) ⌝ }
@@ -81,7 +81,7 @@ pub fn layer_name_at(s: &[u8], i: usize) -> &[u8]
     &s[start..start + long]
 }
 
-// The part of the block that is a layer's logical name. For a block that has been checked.
+// The part of the block that is a layer's logical name. For a caller that has checked the block.
 pub fn find_layer_name(s: &[u8], layer: i16) -> Span
     requires { ⌜ layerNamesOk (now s) ≡ true ⌝ }
     ensures { λ r. ⌜ (spanned (now (s .entry)) r ≡ spec.nameOfLayer (now (s .entry)) layer) × spanWithin (now (s .entry)) r ⌝ }

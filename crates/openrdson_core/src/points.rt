@@ -85,6 +85,7 @@ fn points_in_range(xs: &[f64], ys: &[f64]) -> bool
 }
 
 // Whether every coordinate is at most limit in size. There is no branch in the loop, so that several points are tested at once.
+// For a caller that has found the two lists equally long.
 pub fn points_within(xs: &[f64], ys: &[f64], limit: f64) -> bool
     requires { ⌜ length (now xs) ≡ length (now ys) ⌝ }
     ensures { λ r. ⌜ r ≡ pointsWithin limit (now (xs .entry)) (now (ys .entry)) ⌝ }

@@ -105,7 +105,7 @@ fn are_figures_in(c: &[u8]) -> bool
     is_figure_in(2 <= flag, &c[9..17])
 }
 
-// Whether the present figures of a block are finite and at most 2^19 in size. It is `pub` for the crate above, and requires a block that has been checked.
+// Whether the present figures of a block are finite and at most 2^19 in size. For a caller that has checked the block.
 pub fn is_stack_in(s: &[u8]) -> bool
     requires { ⌜ stackOk (now s) ≡ true ⌝ }
     ensures { λ r. ⌜ r ≡ spec.stackIn (now (s .entry)) ⌝ }
@@ -134,7 +134,7 @@ fn entry_at(c: &[u8]) -> StackLayer
     StackLayer::Found(height, thickness)
 }
 
-// The conductor or the diffusion of a name. For a block that has been checked.
+// The conductor or the diffusion of a name. For a caller that has checked the block.
 pub fn find_stack_layer(s: &[u8], name: &[u8]) -> StackLayer
     requires { ⌜ stackOk (now s) ≡ true ⌝ }
     ensures { λ r. ⌜ spec.stackLayerAnswer r ≡ given (Option·map spec.figuresOf (entryOf Cell.Figures (now (s .entry)) (now (name .entry)))) ⌝ }
@@ -175,7 +175,7 @@ fn end_at(s: &[u8], at: usize) -> Span
     Span::Part(at, name_length(c))
 }
 
-// The layers of the via of a name. For a block that has been checked.
+// The layers of the via of a name. For a caller that has checked the block.
 pub fn find_via(s: &[u8], name: &[u8]) -> ViaLayers
     requires { ⌜ viasOk (now s) ≡ true ⌝ }
     ensures { λ r. ⌜ (spec.viaLayersAnswer (now (s .entry)) r ≡ given (Option·map spec.viaNamesOf (entryOf Cell.Ends (now (s .entry)) (now (name .entry))))) × spec.viaLayersWithin (now (s .entry)) r ⌝ }
@@ -203,7 +203,7 @@ pub fn via_layers(s: &[u8], name: &[u8]) -> ViaLayers
     find_via(s, name)
 }
 
-// The material number of a name. For blocks that have been checked.
+// The material number of a name. For a caller that has checked the three blocks.
 pub fn find_material(conductors: &[u8], diffusions: &[u8], vias: &[u8], name: &[u8]) -> Material
     requires { ⌜ (stackOk (now conductors) ≡ true) × (stackOk (now diffusions) ≡ true) × (viasOk (now vias) ≡ true) ⌝ }
     ensures { λ r. ⌜ r .0 ≡ spec.materialOf (now (conductors .entry)) (now (diffusions .entry)) (now (vias .entry)) (now (name .entry)) ⌝ }

@@ -1,7 +1,7 @@
 //! The calls compared: their numbers, names, blocks, refusals and outputs.
 use crate::blocks::Kind;
 
-/// Each call by its number in the recorded answers; those past 21 are not recorded.
+/// Each call by its number in the recorded answers; those from 22 to 39 are not recorded.
 #[derive(Clone, Copy, PartialEq, Debug)]
 #[repr(u64)]
 pub enum Call {
@@ -66,6 +66,10 @@ pub const CALLS: [Call; 42] = [
 /// The calls that are recorded: those on numbers, and those on name blocks and names.
 pub const RECORDED_NUMBERS: std::ops::Range<usize> = 0..13;
 pub const RECORDED_BLOCKS: std::ops::Range<usize> = 13..21;
+
+/// Those on regions, and the number of `assemble_stack`.
+pub const RECORDED_REGIONS: [Call; 3] = [ExtrudePolygon, ExtrudeBox, TotalVolume];
+pub const RECORDED_STACKS: u64 = 43;
 
 /// One value of an accepted call.
 #[derive(Clone, Copy, PartialEq)]

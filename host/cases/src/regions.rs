@@ -47,6 +47,15 @@ impl Row {
         let [start, count, material, net, polygon] = self.numbers.map(u64::from);
         [self.kind as u64, a, b, c, d, e, f, start, count, material, net, polygon]
     }
+
+    /// The row with these twelve entries.
+    pub fn of(words: &[u64; 12]) -> Row {
+        Row {
+            kind: words[0] as u8,
+            bounds: std::array::from_fn(|i| f64::from_bits(words[1 + i])),
+            numbers: std::array::from_fn(|i| words[7 + i] as u32),
+        }
+    }
 }
 
 impl Regions {

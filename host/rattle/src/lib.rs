@@ -8,6 +8,7 @@ pub mod stacks;
 use cases::call::Call::*;
 use cases::case::{Answer, Case};
 use exports::*;
+pub use lookups::answer as answer_on;
 use outputs::{plain, Outputs};
 pub use outputs::Said;
 
@@ -37,10 +38,11 @@ pub fn answer(case: &Case) -> Said {
             }
             BoxFootprintBbox => openrdson_box_footprint_bbox(a, b, c, d, e, f, xs, nx, ys, ny, o1, o2, o3, o4),
             PrismFootprintBbox => openrdson_prism_footprint_bbox(a, b, start, count, xs, nx, ys, ny, o1, o2, o3, o4),
-            CheckBlocks | LookUp | PhysicalName | LayerName | StackLayer | ViaLayers | MaterialNumber => {
-                lookups::status(case, &mut outputs)
+            CheckBlocks | LookUp | PhysicalName | CopyPhysicalName | LayerName | StackLayer | ViaLayers
+            | MaterialNumber => {
+                let lent: Vec<&[u8]> = case.lent.iter().map(|lent| &*lent.bytes).collect();
+                return answer_on(case, &lent);
             }
-            CopyPhysicalName => return plain(lookups::copied(case)),
             IsMarker => return whole(openrdson_is_marker(case.name().as_ptr(), case.name().len()) as u64),
             ExtrudePolygon | ExtrudeBox | TotalVolume => regions::status(case, &mut outputs),
             Sqrt => return float(openrdson_sqrt(x)),

@@ -1,16 +1,23 @@
 //! The calls on name blocks.
 use crate::exports::*;
-use crate::outputs::Outputs;
+use crate::outputs::{plain, Outputs, Said};
 use cases::call::Call::*;
 use cases::case::{Answer, Case, BEFORE, COPY};
 
+/// What is said of the case, its blocks and the name asked for lent from here.
+pub fn answer(case: &Case, lent: &[&[u8]]) -> Said {
+    if case.call == CopyPhysicalName {
+        return plain(unsafe { copied(case, lent) });
+    }
+    let mut outputs = Outputs::new();
+    let status = unsafe { status(case, lent, &mut outputs) };
+    outputs.said(status, case.call.gives())
+}
+
 /// The status of the call, its values among the outputs.
-pub unsafe fn status(case: &Case, outputs: &mut Outputs) -> u32 {
-    let lent = |place: usize| match case.lent.get(place) {
-        Some(lent) => (lent.bytes.as_ptr(), lent.bytes.len()),
-        None => (std::ptr::null(), 0),
-    };
-    let [(a, na), (b, nb), (c, nc), (d, nd), (e, ne), (f, nf)] = std::array::from_fn(lent);
+unsafe fn status(case: &Case, lent: &[&[u8]], outputs: &mut Outputs) -> u32 {
+    let list = |place: usize| lent.get(place).map_or((std::ptr::null(), 0), |bytes| (bytes.as_ptr(), bytes.len()));
+    let [(a, na), (b, nb), (c, nc), (d, nd), (e, ne), (f, nf)] = std::array::from_fn(list);
     let [truth, has_height, _, has_thickness, ..] = outputs.places::<bool>();
     let [number, ..] = outputs.places::<u32>();
     let [p1, p2, p3, p4, p5, ..] = outputs.places::<usize>();
@@ -28,8 +35,8 @@ pub unsafe fn status(case: &Case, outputs: &mut Outputs) -> u32 {
 }
 
 /// The copy of a physical name.
-pub unsafe fn copied(case: &Case) -> Answer {
-    let [a, b, c] = [case.block(0), case.block(1), case.name()];
+unsafe fn copied(case: &Case, lent: &[&[u8]]) -> Answer {
+    let [a, b, c] = [lent[0], lent[1], lent[2]];
     let mut copy = [BEFORE; COPY];
     let (to, room) = (copy.as_mut_ptr(), case.room());
     let (pa, pb, pc) = (a.as_ptr(), b.as_ptr(), c.as_ptr());

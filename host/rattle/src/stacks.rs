@@ -92,9 +92,20 @@ pub fn answer(job: &Job) -> Stacked {
     after
 }
 
+/// The same, the six blocks lent from here.
+pub fn answer_on(job: &Job, blocks: [&[u8]; 6]) -> Stacked {
+    let mut after = Stacked::before(job);
+    call_on(job, blocks, &mut after);
+    after
+}
+
 /// The call on these lists.
 pub fn call(job: &Job, after: &mut Stacked) {
-    let [a, b, c, d, e, f] = std::array::from_fn(|i| (job.blocks[i].bytes.as_ptr(), job.blocks[i].bytes.len()));
+    call_on(job, std::array::from_fn(|i| &*job.blocks[i].bytes), after);
+}
+
+fn call_on(job: &Job, blocks: [&[u8]; 6], after: &mut Stacked) {
+    let [a, b, c, d, e, f] = blocks.map(|block| (block.as_ptr(), block.len()));
     let [nets, starts, counts] = job.polygons.each_ref().map(|list| (list.as_ptr(), list.len()));
     let lists = &mut after.lists;
     let [x0, y0, x1, y1, z0, z1] = lists.bounds.each_mut().map(|list| (list.as_mut_ptr(), list.len() - PAST));

@@ -1,7 +1,8 @@
-//! Writes the expected answers that crates/replay and crates/replay_blocks replay; with --check it only says whether
-//! the files are the same.
+//! Writes the expected answers that crates/replay, crates/replay_blocks and crates/replay_regions replay; with --check
+//! it only says whether the files are the same.
 mod blocks;
 mod numbers;
+mod regions;
 mod sample;
 
 use sample::Sample;
@@ -10,7 +11,11 @@ use std::process::ExitCode;
 
 fn main() -> ExitCode {
     let check = std::env::args().nth(1).as_deref() == Some("--check");
-    let files = [("crates/replay/stdin", numbers::taken()), ("crates/replay_blocks/stdin", blocks::taken())];
+    let files = [
+        ("crates/replay/stdin", numbers::taken()),
+        ("crates/replay_blocks/stdin", blocks::taken()),
+        ("crates/replay_regions/stdin", regions::taken()),
+    ];
     let mut same = true;
     for (name, sample) in files {
         let path = Path::new(env!("CARGO_MANIFEST_DIR")).join("../..").join(name);

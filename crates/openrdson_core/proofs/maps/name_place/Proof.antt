@@ -3,7 +3,7 @@ use mathlib.Core.Path.{sym, ap, subst, _∙_}
 use borrow.Author.Needs.{needs}
 use borrow.Author.Tests.{not-true, not-false}
 use Rattle.lists.specs.Answer.{given}
-use Rattle.openrdson_core.specs.Maps.{lookup, spanned, spanWithin}
+use Rattle.openrdson_core.specs.Maps.{lookup, isSome, spanned, spanWithin}
 use Rattle.openrdson_core.proofs.maps.name_place.Statement.{statement}
 use Rattle.openrdson_core.proofs.maps.name_place.Tie as tie
 
@@ -12,14 +12,14 @@ is-map-requires c κs = search needs
 
 returns : tie.Need-returns
 unfolding lookup
-returns c = (rw (sym (c .before .is-map .ensures) ∙ not-true _ (c .if1 .taken)), tt)
+returns c = (rw (sym (c .before .is-map .ensures) ∙ not-true _ (c .if1 .taken)), tt, tt)
 
 is-map-requires-2 : tie.Need-is-map-requires-2
 is-map-requires-2 c κs = search needs
 
 returns-2 : tie.Need-returns-2
 unfolding lookup
-returns-2 c = (rw (sym (c .before .before .before .is-map .ensures) ∙ not-false _ (c .before .before .if1 .left), sym (c .before .is-map2 .ensures) ∙ not-true _ (c .if2 .taken)), tt)
+returns-2 c = (rw (sym (c .before .before .before .is-map .ensures) ∙ not-false _ (c .before .before .if1 .left), sym (c .before .is-map2 .ensures) ∙ not-true _ (c .if2 .taken)), tt, tt)
 
 find-in-map-requires : tie.Need-find-in-map-requires
 find-in-map-requires c κs = sym (c .before .before .before .is-map .ensures) ∙ not-false _ (c .before .before .if1 .left)
@@ -29,7 +29,7 @@ enum-known-first c = search needs
 
 returns-3 : tie.Need-returns-3
 unfolding lookup
-returns-3 c = (rw (sym (c .before .before .before .before .before .before .before .is-map .ensures) ∙ not-false _ (c .before .before .before .before .before .before .if1 .left), sym (c .before .before .before .before .before .is-map2 .ensures) ∙ not-false _ (c .before .before .before .before .if2 .left), sym (sym (ap (spanned (c .before .before .before .before .before .before .before .before .before .before .before .args .conducting .now)) (c .before .first .given .1)) ∙ c .before .before .before .find-in-map .ensures .0)), subst (spanWithin (c .before .before .before .before .before .before .before .before .before .before .before .args .conducting .now)) (c .before .first .given .1) (c .before .before .before .find-in-map .ensures .1))
+returns-3 c = (rw (sym (c .before .before .before .before .before .before .before .is-map .ensures) ∙ not-false _ (c .before .before .before .before .before .before .if1 .left), sym (c .before .before .before .before .before .is-map2 .ensures) ∙ not-false _ (c .before .before .before .before .if2 .left), sym (sym (ap (spanned (c .before .before .before .before .before .before .before .before .before .before .before .args .conducting .now)) (c .before .first .given .1)) ∙ c .before .before .before .find-in-map .ensures .0)), subst (spanWithin (c .before .before .before .before .before .before .before .before .before .before .before .args .conducting .now)) (c .before .first .given .1) (c .before .before .before .find-in-map .ensures .1), sym (ap isSome (sym (ap (spanned (c .before .before .before .before .before .before .before .before .before .before .before .args .conducting .now)) (c .before .first .given .1)) ∙ c .before .before .before .find-in-map .ensures .0)))
 
 enum-told : tie.Need-enum-told
 enum-told c = search needs
@@ -42,14 +42,14 @@ enum-known-second c = search needs
 
 returns-4 : tie.Need-returns-4
 unfolding lookup
-returns-4 c = (rw (sym (c .before .before .before .before .before .before .before .before .before .before .is-map .ensures) ∙ not-false _ (c .before .before .before .before .before .before .before .before .before .if1 .left), sym (c .before .before .before .before .before .before .before .before .is-map2 .ensures) ∙ not-false _ (c .before .before .before .before .before .before .before .if2 .left), sym (sym (ap (spanned (c .before .before .before .before .before .before .before .before .before .before .before .before .before .before .args .conducting .now)) (c .before .before .before .before .enum-told .given .1)) ∙ c .before .before .before .before .before .before .find-in-map .ensures .0), sym (sym (ap (spanned (c .before .before .before .before .before .before .before .before .before .before .before .before .before .before .args .via .now)) (c .before .second .given .1)) ∙ c .before .before .before .find-in-map2 .ensures .0)), subst (spanWithin (c .before .before .before .before .before .before .before .before .before .before .before .before .before .before .args .via .now)) (c .before .second .given .1) (c .before .before .before .find-in-map2 .ensures .1))
+returns-4 c = (rw (sym (c .before .before .before .before .before .before .before .before .before .before .is-map .ensures) ∙ not-false _ (c .before .before .before .before .before .before .before .before .before .if1 .left), sym (c .before .before .before .before .before .before .before .before .is-map2 .ensures) ∙ not-false _ (c .before .before .before .before .before .before .before .if2 .left), sym (sym (ap (spanned (c .before .before .before .before .before .before .before .before .before .before .before .before .before .before .args .conducting .now)) (c .before .before .before .before .enum-told .given .1)) ∙ c .before .before .before .before .before .before .find-in-map .ensures .0), sym (sym (ap (spanned (c .before .before .before .before .before .before .before .before .before .before .before .before .before .before .args .via .now)) (c .before .second .given .1)) ∙ c .before .before .before .find-in-map2 .ensures .0)), subst (spanWithin (c .before .before .before .before .before .before .before .before .before .before .before .before .before .before .args .via .now)) (c .before .second .given .1) (c .before .before .before .find-in-map2 .ensures .1), sym (ap isSome (sym (ap (spanned (c .before .before .before .before .before .before .before .before .before .before .before .before .before .before .args .conducting .now)) (c .before .before .before .before .enum-told .given .1)) ∙ c .before .before .before .before .before .before .find-in-map .ensures .0)))
 
 enum-told-2 : tie.Need-enum-told-2
 enum-told-2 c = search needs
 
 returns-5 : tie.Need-returns-5
 unfolding lookup
-returns-5 c = (rw (sym (c .before .before .before .before .before .before .before .before .before .is-map .ensures) ∙ not-false _ (c .before .before .before .before .before .before .before .before .if1 .left), sym (c .before .before .before .before .before .before .before .is-map2 .ensures) ∙ not-false _ (c .before .before .before .before .before .before .if2 .left), sym (sym (ap (spanned (c .before .before .before .before .before .before .before .before .before .before .before .before .before .args .conducting .now)) (c .before .before .before .enum-told .given .1)) ∙ c .before .before .before .before .before .find-in-map .ensures .0), sym (sym (ap (spanned (c .before .before .before .before .before .before .before .before .before .before .before .before .before .args .via .now)) (c .enum-told2 .given .1)) ∙ c .before .before .find-in-map2 .ensures .0)), tt)
+returns-5 c = (rw (sym (c .before .before .before .before .before .before .before .before .before .is-map .ensures) ∙ not-false _ (c .before .before .before .before .before .before .before .before .if1 .left), sym (c .before .before .before .before .before .before .before .is-map2 .ensures) ∙ not-false _ (c .before .before .before .before .before .before .if2 .left), sym (sym (ap (spanned (c .before .before .before .before .before .before .before .before .before .before .before .before .before .args .conducting .now)) (c .before .before .before .enum-told .given .1)) ∙ c .before .before .before .before .before .find-in-map .ensures .0), sym (sym (ap (spanned (c .before .before .before .before .before .before .before .before .before .before .before .before .before .args .via .now)) (c .enum-told2 .given .1)) ∙ c .before .before .find-in-map2 .ensures .0)), tt, tt)
 
 pub name-place-spec : {M : Type 1} → statement M
 name-place-spec =

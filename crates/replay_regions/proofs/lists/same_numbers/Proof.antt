@@ -1,0 +1,62 @@
+-- `same_numbers` is safe and ends. Assumes nothing.
+use Prim.Native.Nat.{_-_}
+use borrow.Author.Needs.{needs}
+use Rattle.replay_regions.proofs.lists.same_numbers.Statement.{statement}
+use Rattle.replay_regions.proofs.lists.same_numbers.Tie as tie
+
+abbrev Inv-loop : tie.InvT-loop
+Inv-loop list «record» i k₀ k = Unit {0}
+
+abbrev μ-loop : tie.MeasureT-loop
+μ-loop list «record» i k₀ k = 16 - k
+
+loop-holds : tie.Need-loop-holds Inv-loop μ-loop
+loop-holds c = search needs
+
+mul-wider : tie.Need-mul-wider Inv-loop μ-loop
+mul-wider c = search needs
+
+element-copy-out-wider : tie.Need-element-copy-out-wider Inv-loop μ-loop
+element-copy-out-wider c = search needs
+
+wider-requires : tie.Need-wider-requires Inv-loop μ-loop
+wider-requires c κs = search needs
+
+wider-requires-2 : tie.Need-wider-requires-2 Inv-loop μ-loop
+wider-requires-2 c κs = search needs
+
+entry-requires : tie.Need-entry-requires Inv-loop μ-loop
+entry-requires c κs = search needs
+
+returns : tie.Need-returns Inv-loop μ-loop
+returns c = search needs
+
+add-k : tie.Need-add-k Inv-loop μ-loop
+add-k c = search needs
+
+loop-less : tie.Need-loop-less Inv-loop μ-loop
+loop-less c = search needs
+
+loop-again : tie.Need-loop-again Inv-loop μ-loop
+loop-again c = search needs
+
+returns-2 : tie.Need-returns-2 Inv-loop μ-loop
+returns-2 c = search needs
+
+pub same-numbers-spec : {M : Type 1} → statement M
+same-numbers-spec =
+    tie.close
+    (tie.spec
+    Inv-loop
+    μ-loop
+    loop-holds
+    mul-wider
+    element-copy-out-wider
+    wider-requires
+    wider-requires-2
+    entry-requires
+    returns
+    add-k
+    loop-less
+    loop-again
+    returns-2)

@@ -1,0 +1,62 @@
+-- `same_reals` is safe and ends. Assumes nothing.
+use Prim.Native.Nat.{_-_}
+use borrow.Author.Needs.{needs}
+use Rattle.replay_regions.proofs.lists.same_reals.Statement.{statement}
+use Rattle.replay_regions.proofs.lists.same_reals.Tie as tie
+
+abbrev Inv-loop : tie.InvT-loop
+Inv-loop list «record» i k₀ k = Unit {0}
+
+abbrev μ-loop : tie.MeasureT-loop
+μ-loop list «record» i k₀ k = 16 - k
+
+loop-holds : tie.Need-loop-holds Inv-loop μ-loop
+loop-holds c = search needs
+
+mul-bits : tie.Need-mul-bits Inv-loop μ-loop
+mul-bits c = search needs
+
+element-copy-out-bits : tie.Need-element-copy-out-bits Inv-loop μ-loop
+element-copy-out-bits c = search needs
+
+bits-requires : tie.Need-bits-requires Inv-loop μ-loop
+bits-requires c κs = search needs
+
+bits-requires-2 : tie.Need-bits-requires-2 Inv-loop μ-loop
+bits-requires-2 c κs = search needs
+
+entry-requires : tie.Need-entry-requires Inv-loop μ-loop
+entry-requires c κs = search needs
+
+returns : tie.Need-returns Inv-loop μ-loop
+returns c = search needs
+
+add-k : tie.Need-add-k Inv-loop μ-loop
+add-k c = search needs
+
+loop-less : tie.Need-loop-less Inv-loop μ-loop
+loop-less c = search needs
+
+loop-again : tie.Need-loop-again Inv-loop μ-loop
+loop-again c = search needs
+
+returns-2 : tie.Need-returns-2 Inv-loop μ-loop
+returns-2 c = search needs
+
+pub same-reals-spec : {M : Type 1} → statement M
+same-reals-spec =
+    tie.close
+    (tie.spec
+    Inv-loop
+    μ-loop
+    loop-holds
+    mul-bits
+    element-copy-out-bits
+    bits-requires
+    bits-requires-2
+    entry-requires
+    returns
+    add-k
+    loop-less
+    loop-again
+    returns-2)
