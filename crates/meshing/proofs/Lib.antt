@@ -4,6 +4,8 @@ pub mod Around
 pub mod Clipped
 pub mod Cutting
 pub mod Walks
+pub mod WalkLaws
+pub mod TriangulateLaws
 pub mod Demand
 pub mod Written
 pub mod Shapes
