@@ -75,18 +75,23 @@ module _ (xs ys : List Float) (m c : ℕ) (ks : List ℕ) where
   pub too-few : length ks < 3 → cutting xs ys m c ks ≡ refused 3
   too-few h = not-cut (few h)
 
-  module _ (ts : List Triangle) (e : trianglesOf (gathered xs ks) (gathered ys ks) ≡ given ts) where
-    pub no-ring-room : m < length ks → cutting xs ys m c ks ≡ refused 12
-    unfolding cutting fitted
-    no-ring-room h = rw (e, lt-leb (length ks) m h)
+  -- with the triangles known, 12 is left
+  pub cut-to : {ts : List Triangle} → trianglesOf (gathered xs ks) (gathered ys ks) ≡ given ts → cutting xs ys m c ks ≡ fitted m c ks ts
+  unfolding cutting
+  cut-to e = rw e
 
-    pub no-corner-room : length ks ≤ m → c < length (corners ts) → cutting xs ys m c ks ≡ refused 12
-    unfolding cutting fitted
-    no-corner-room h l = rw (e, le-leb (length ks) m h, lt-leb (length (corners ts)) c l)
+module _ (m c : ℕ) (ks : List ℕ) (ts : List Triangle) where
+  pub no-ring-room : m < length ks → fitted m c ks ts ≡ refused 12
+  unfolding fitted
+  no-ring-room h = rw (lt-leb (length ks) m h)
 
-    pub has-room : length ks ≤ m → length (corners ts) ≤ c → cutting xs ys m c ks ≡ given (record { ring = ks; triangles = ts })
-    unfolding cutting fitted
-    has-room h l = rw (e, le-leb (length ks) m h, le-leb (length (corners ts)) c l)
+  pub no-corner-room : length ks ≤ m → c < length (corners ts) → fitted m c ks ts ≡ refused 12
+  unfolding fitted
+  no-corner-room h l = rw (le-leb (length ks) m h, lt-leb (length (corners ts)) c l)
+
+  pub has-room : length ks ≤ m → length (corners ts) ≤ c → fitted m c ks ts ≡ given (record { ring = ks; triangles = ts })
+  unfolding fitted
+  has-room h l = rw (le-leb (length ks) m h, le-leb (length (corners ts)) c l)
 
 -- ---- what a refusal leaves, and an answer
 
