@@ -10,3 +10,5 @@ pub mod Demand
 pub mod Written
 pub mod Shapes
 pub mod RingLaws
+pub mod EarLaws
+pub mod ClipLaws

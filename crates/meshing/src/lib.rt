@@ -1,4 +1,5 @@
 // Meshes of regions (the original's meshing/src/lib.rs).
+mod ears;
 mod ring;
 mod triangulate;
 
