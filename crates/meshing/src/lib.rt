@@ -6,3 +6,4 @@ mod triangulate;
 pub use ring::Cleaned;
 pub use ring::dedup_ring;
 pub use triangulate::Triangulated;
+pub use triangulate::triangulate_polygon;
