@@ -15,7 +15,7 @@ use Rattle.lists.proofs.Fills.{put-sets, put-length}
 use Rattle.lists.proofs.Places.{below-at, below-take}
 use Rattle.lists.proofs.Searches.{first-below}
 use Rattle.meshing.specs.Triangles.{Triangle, tri, corners}
-use Rattle.meshing.specs.Clipping.{after, triangleAt, without, cutAt, cutting, clip}
+use Rattle.meshing.specs.Clipping.{triangleAt, without, cutAt, cutting, clip}
 
 -- three stores, one after the other
 pub put-three : (l : List ℕ) (p a b c : ℕ) → p + 3 ≤ length l → set (set (set l p a) (p + 1) b) (p + 2) c ≡ put l p (a ∷ b ∷ c ∷ [])

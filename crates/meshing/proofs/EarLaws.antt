@@ -2,7 +2,7 @@
 use mathlib.Core.Path.{_≡_, refl, sym, ap, _∙_}
 use mathlib.Core.Bool.{Bool, true, false, not, _&&_, _||_, false≢true}
 use mathlib.Core.List.{List}
-use Prim.Native.Nat.{ℕ, _+_, _<_}
+use Prim.Native.Nat.{ℕ, _<_}
 use lib.Dec.{eqb}
 use lib.ListN.{length, getD}
 use lib.Ieee.{Float, lt}
@@ -11,7 +11,7 @@ use Rattle.lists.proofs.Scans.{and-false, all-fails}
 use Rattle.binary64.specs.Constants.{zero64}
 use Rattle.openrdson_core.specs.Points.{pointAt}
 use Rattle.openrdson_core.specs.declared.points.Point.{Point}
-use Rattle.meshing.specs.Clipping.{before, here, after}
+use Rattle.meshing.specs.Clipping.{after}
 use Rattle.meshing.specs.Ears.{turn, side, hasNeg, hasPos, inTriangle, blocks, isClear, isEarOf, isEar}
 
 -- ---- a point and a triangle

@@ -10,5 +10,6 @@ pub mod Demand
 pub mod Written
 pub mod Shapes
 pub mod RingLaws
+pub mod Crossing
 pub mod EarLaws
 pub mod ClipLaws

@@ -7,7 +7,7 @@ ghost use lib.Ieee.{lt};
 ghost use Rattle.lists.specs.Answer.{mapAnswer};
 ghost use Rattle.lists.specs.Lists.{Below, first, nextOf, prevOf, put};
 ghost use Rattle.binary64.specs.Constants.{zero64};
-ghost use Rattle.openrdson_core.specs.Points.{thePoint, pointAt};
+ghost use Rattle.openrdson_core.specs.Points.{pointAt};
 ghost use Rattle.meshing.specs.Triangles.{corners};
 ghost use Rattle.meshing.specs.Clipping.{triangleAt, without, clip};
 ghost use Rattle.meshing.specs.Ears as spec;

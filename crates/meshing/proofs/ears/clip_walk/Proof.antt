@@ -1,5 +1,5 @@
 -- `clip_walk` meets its contract: its loop is `Run`, and the last three vertices end it. Assumes nothing.
-use Prim.Native.Nat.{_≤_, _<_, _+_, _-_}
+use Prim.Native.Nat.{_+_, _-_}
 use native.Mathlib.Omega.{arith}
 use borrow.Author.Needs.{needs}
 use mathlib.Core.Path.{_≡_, refl, sym, ap, _∙_}

@@ -1,10 +1,10 @@
 -- `first_ear` meets its contract: the outer loop searches, the inner one scans, and both end at the first ear. Assumes nothing.
-use Prim.Native.Nat.{_≤_, _-_, _+_}
+use Prim.Native.Nat.{_≤_, _-_}
 use native.Mathlib.Omega.{arith}
 use borrow.Author.Needs.{needs}
 use mathlib.Core.Bool.{true}
 use mathlib.Core.Logic.{⊎-elim}
-use mathlib.Core.Path.{_≡_, refl, sym, _∙_}
+use mathlib.Core.Path.{_≡_, sym}
 use lib.ListN.{length, getD}
 use Rattle.lists.specs.Lists.{allBelow}
 use Rattle.lists.proofs.Places.{below-at}

@@ -1,7 +1,6 @@
 -- `remove_at` meets its contract: the places from k on are as without place i, one later. Assumes nothing.
 use Prim.Native.Nat.{_≤_}
 use native.Mathlib.Omega.{arith}
-use borrow.Author.Needs.{needs}
 use mathlib.Core.Path.{_≡_, refl, _∙_}
 use lib.ListN.{length, length-set}
 use Rattle.meshing.proofs.ClipLaws.{raised, raised-start, raised-more, raised-end}
