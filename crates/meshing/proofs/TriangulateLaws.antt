@@ -1,28 +1,34 @@
 -- Triangulating: the cleaned ring is a ring, each refusal, and demand 3 of what is written. Assumes nothing.
 use mathlib.Core.Path.{_≡_, refl, sym, ap, subst, _∙_}
-use mathlib.Core.Bool.{Bool, true, false}
+use mathlib.Core.Bool.{Bool, true, false, not}
 use mathlib.Core.List.{List, [], _∷_, _++_}
 use Prim.Native.Nat.{ℕ, zero, suc, _+_, _*_, _-_, _≤_, _<_}
 use native.Mathlib.Omega.{arith}
 use lib.Dec.{eqb, leb}
 use lib.ListN.{length, getD, take, length-append}
-use lib.Seq.{take-at}
-use lib.Ieee.{Float, nan}
+use lib.Ieee.{Float, nan, lt}
 use borrow.Author.Tests.{le-leb, lt-leb, eq-eqb, ne-eqb}
 use Rattle.lists.specs.Answer.{Answer, refused, given, unless, andThen, mapAnswer}
 use Rattle.lists.specs.Lists.{put, gather, Below, allBelow}
 use Rattle.lists.proofs.Answers.{refused-given, passed, passed-then, given-same}
 use Rattle.lists.proofs.Scans.{all-at, all-from}
 use Rattle.lists.proofs.Places.{gather-length, below-at}
-use Rattle.openrdson_core.specs.Points.{pointAt, pointIn, pointsIn, ringSize, ringFault}
+use Rattle.binary64.specs.Constants.{zero64}
+use Rattle.openrdson_core.specs.Area.{signedArea}
+use Rattle.openrdson_core.specs.Points.{pointAt, pointIn, pointsIn, ringSize, ringFault, ofRing}
 use Rattle.openrdson_core.proofs.Rings.{Sized, fine-ring}
 use Rattle.meshing.specs.Ring.{kept, gathered}
-use Rattle.meshing.specs.Triangles.{Triangle, tri, corners, triples, Triangulation}
-use Rattle.meshing.specs.Ears.{isForward, trianglesOf}
+use Rattle.meshing.specs.Triangles.{Triangle, tri, corners, triples, walk, Triangulation}
+use Rattle.meshing.specs.Clipping.{clip}
+use Rattle.meshing.specs.Ears.{isEar, isForward, trianglesOf}
+use Rattle.meshing.specs.Answers.{cutAnswer}
+use Rattle.meshing.specs.declared.ears.Cut.{Cut}
+use Rattle.meshing.specs.declared.ears.Cut.the-variants.{Done, Stalled}
 use Rattle.meshing.specs.Triangulate.{Cutting, fitted, cutting, triangulatePolygon, triangulatedAnswer, Leaves, Demand3}
 use Rattle.meshing.specs.declared.triangulate.Triangulated.{Triangulated}
 use Rattle.meshing.specs.declared.triangulate.Triangulated.the-variants.{Counts, Refused}
 use Rattle.meshing.proofs.Written.{triples-corners}
+use Rattle.meshing.proofs.WalkLaws.{written}
 use Rattle.meshing.proofs.Demand.{triangles-triangulation}
 
 -- ---- the points at places of a ring are a ring
@@ -109,11 +115,6 @@ pub corners-length : (ts : List Triangle) → length (corners ts) ≡ length ts 
 corners-length [] = refl
 corners-length (tri a b c ∷ ts) = omega (arith, corners-length ts)
 
--- the start of a list that a run was written over
-written : {A : Type 0} (l new : List A) {l′ : List A} {n : ℕ} → l′ ≡ put l 0 new → n ≡ length new → take n l′ ≡ new
-unfolding put
-written l new {l′} {n} e f = ap (take n) e ∙ take-at new _ n (sym f)
-
 module _ (xs ys : List Float) where
   fitted-is : (m k : ℕ) (ks : List ℕ) (ts : List Triangle) (c : Cutting) → fitted m k ks ts ≡ given c → (record { ring = ks; triangles = ts }) ≡ c
   unfolding fitted
@@ -151,3 +152,59 @@ leaves-demand xs ys ox oy cs (Counts v t) (refused n) e l = refused-given (sym (
 leaves-demand xs ys ox oy cs (Counts v t) (given c) e l =
     let same = given-same (l .answer) in
     demand xs ys c (polygon-is xs ys (length ox) (length oy) (length cs) c e) ox oy cs v t (ap (λ (p : ℕ × ℕ). p .0) same) (ap (λ (p : ℕ × ℕ). p .1) same) (l .writes-x) (l .writes-y) (l .writes-corners)
+
+-- what is left depends on the answer alone
+pub same-leaves : {xs ys ox oy : List Float} {cs : List ℕ} {r : Triangulated} {ox′ oy′ : List Float} {cs′ : List ℕ} {a b : Answer Cutting} → a ≡ b → Leaves a xs ys ox oy cs r ox′ oy′ cs′ → Leaves b xs ys ox oy cs r ox′ oy′ cs′
+same-leaves {xs = xs} {ys = ys} {ox = ox} {oy = oy} {cs = cs} {r = r} {ox′ = ox′} {oy′ = oy′} {cs′ = cs′} e = subst (λ (a : Answer Cutting). Leaves a xs ys ox oy cs r ox′ oy′ cs′) e
+
+-- ---- clipping a ring in the direction of its area
+
+module _ (xs ys : List Float) (e : ringFault xs ys ≡ given tt) where
+  -- a checked ring has an area
+  pub area-given : {n : ℕ} {X : Type 0} → refused n ≡ ofRing xs ys (signedArea xs ys) → X
+  area-given f = refused-given {a = signedArea xs ys} (f ∙ rw e)
+
+  pub area-is : {a : Float} → given a ≡ ofRing xs ys (signedArea xs ys) → a ≡ signedArea xs ys
+  area-is f = given-same (f ∙ rw e)
+
+-- the triangles of a ring of three points or more are those of its walk
+pub ring-triangles : (xs ys : List Float) (a : Float) (w : List ℕ) → 3 ≤ length xs → a ≡ signedArea xs ys → w ≡ walk (not (lt a zero64)) (length xs)
+    → clip (isEar xs ys) w ≡ trianglesOf xs ys
+unfolding trianglesOf
+ring-triangles xs ys a w h f g =
+    rw (le-leb 3 (length xs) h) (ap (clip (isEar xs ys)) (g ∙ ap (λ (x : Float). walk (not (lt x zero64)) (length xs)) f))
+
+-- ---- what clipping a ring answers
+
+stalled : (a : Answer (List Triangle)) → refused 4 ≡ mapAnswer corners a → a ≡ refused 4
+stalled (refused n) e = sym (ap (mapAnswer (λ (l : List ℕ). triples l)) e)
+stalled (given ts) e = refused-given e
+
+done : (a : Answer (List Triangle)) (l : List ℕ) → given l ≡ mapAnswer corners a → (a ≡ given (triples l)) × (corners (triples l) ≡ l)
+done (refused n) l e = refused-given (sym e)
+done (given ts) l e =
+    let f : l ≡ corners ts = given-same e in
+    let g : triples l ≡ ts = ap triples f ∙ triples-corners ts in
+    (ap given (sym g), ap corners g ∙ sym f)
+
+-- The points at the places kept, gathered, are rx and ry; out has been written with what their clipping gives.
+module _ (xs ys rx ry : List Float) (m c : ℕ) (e : rx ≡ gathered xs (kept xs ys)) (f : ry ≡ gathered ys (kept xs ys)) where
+  same-triangles : trianglesOf rx ry ≡ trianglesOf (gathered xs (kept xs ys)) (gathered ys (kept xs ys))
+  same-triangles = ap (λ (l : List Float). trianglesOf l ry) e ∙ ap (trianglesOf (gathered xs (kept xs ys))) f
+
+  pub cut-stalled : (out : List ℕ) (r : Cut) → r ≡ Stalled → cutAnswer r out ≡ mapAnswer corners (trianglesOf rx ry) → cutting xs ys m c (kept xs ys) ≡ refused 4
+  cut-stalled out r s g = not-cut xs ys m c (kept xs ys) (sym same-triangles ∙ stalled (trianglesOf rx ry) (ap (λ (q : Cut). cutAnswer q out) (sym s) ∙ g))
+
+  module _ (out : List ℕ) (r : Cut) (d : r ≡ Done) (g : cutAnswer r out ≡ mapAnswer corners (trianglesOf rx ry)) where
+    is-done : (trianglesOf rx ry ≡ given (triples out)) × (corners (triples out) ≡ out)
+    is-done = done (trianglesOf rx ry) out (ap (λ (q : Cut). cutAnswer q out) (sym d) ∙ g)
+
+    pub whole-triangles : corners (triples out) ≡ out
+    whole-triangles = is-done .1
+
+    pub cut-done : (ks : List ℕ) → ks ≡ kept xs ys → fitted m c ks (triples out) ≡ cutting xs ys m c (kept xs ys)
+    cut-done ks h = ap (λ (l : List ℕ). fitted m c l (triples out)) h ∙ sym (cut-to xs ys m c (kept xs ys) (sym same-triangles ∙ is-done .0))
+
+-- the first n places of a list written over with the points at n places
+pub gathered-start : (l : List Float) (old new : List Float) (ks : List ℕ) (n : ℕ) → new ≡ put old 0 (gathered l ks) → n ≡ length ks → take n new ≡ gathered l ks
+gathered-start l old new ks n e h = written old (gathered l ks) e (h ∙ sym (gather-length nan l ks))

@@ -38,11 +38,11 @@ fn walk_place(forward: bool, n: usize, k: usize) -> usize
     n - 1 - k
 }
 
-// Fills the walk: 0 to its end, reversed unless forward.
-fn fill_walk(walk: &mut [usize], forward: bool)
-    ensures { λ _. ⌜ now (walk .exit) ≡ walkOf forward (length (now (walk .entry))) ⌝ }
+// Fills the first n places with the walk round n vertices: 0 to n - 1, reversed unless forward.
+fn fill_walk(walk: &mut [usize], n: usize, forward: bool)
+    requires { ⌜ n ≤ length (now walk) ⌝ }
+    ensures { λ _. ⌜ take n (now (walk .exit)) ≡ walkOf forward n ⌝ }
 {
-    let n = walk.len();
     let mut i = 0;
     while i < n {
         walk[i] = walk_place(forward, n, i);
@@ -100,7 +100,7 @@ pub fn clip_ring(xs: &[f64], ys: &[f64], corners: &mut [u32]) -> Cut
         Measured::Value(area) => {
             let n = xs.len();
             let mut walk = [0usize; 512];
-            fill_walk(&mut walk[..n], !(area < 0.0));
+            fill_walk(&mut walk, n, !(area < 0.0));
             clip_walk(xs, ys, &mut walk[..n], corners)
         }
     }

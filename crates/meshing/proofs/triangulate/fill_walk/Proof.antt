@@ -1,8 +1,7 @@
--- `fill_walk` meets its contract: the loop fills the whole list. Assumes nothing.
+-- `fill_walk` meets its contract: the loop fills the first n places. Assumes nothing.
 use Prim.Native.Nat.{_≤_, _-_}
 use native.Mathlib.Omega.{arith}
 use borrow.Author.Needs.{needs}
-use mathlib.Core.Path.{_≡_, refl, sym, ap, _∙_}
 use lib.ListN.{length}
 use Rattle.lists.proofs.Fills.{Elems, no-elems, one-elem, all-elems}
 use Rattle.meshing.proofs.WalkLaws.{walkAt, walk-filled}
@@ -13,13 +12,13 @@ use Rattle.meshing.proofs.triangulate.fill_walk.Lts as lts
 use Rattle.meshing.proofs.triangulate.walk_place.Reads as walk-place-reads
 
 abbrev Inv-loop : tie.InvT-loop
-Inv-loop walk₀ forward n i₀ walk i = (i ≤ n) × (n ≡ length walk₀) × Elems walk₀ 0 (walkAt forward n) i walk
+Inv-loop walk₀ n forward i₀ walk i = (i ≤ n) × (n ≤ length walk₀) × Elems walk₀ 0 (walkAt forward n) i walk
 
 abbrev μ-loop : tie.MeasureT-loop
-μ-loop walk₀ forward n i₀ walk i = n - i
+μ-loop walk₀ n forward i₀ walk i = n - i
 
 loop-holds : tie.Need-loop-holds Inv-loop μ-loop
-loop-holds c = (omega arith, refl, no-elems (c .before .args .walk .now) 0 (walkAt (c .before .args .forward) (length (c .before .args .walk .now))))
+loop-holds c = (omega arith, c .before .pre, no-elems (c .before .args .walk .now) 0 (walkAt (c .before .args .forward) (c .before .args .n)))
 
 walk-place-requires : tie.Need-walk-place-requires Inv-loop μ-loop
 walk-place-requires c κs = omega arith
@@ -43,7 +42,7 @@ same-length : tie.Need-same-length Inv-loop μ-loop
 same-length c = c .before .loop .inv .2 .long
 
 returns : tie.Need-returns Inv-loop μ-loop
-returns c = all-elems (c .before .loop .inv .2) (omega arith) ∙ walk-filled (c .before .before .before .args .forward) (c .before .before .before .args .walk .now) (c .before .loop .inv .1)
+returns c = walk-filled (c .before .before .before .args .forward) (c .before .before .before .args .walk .now) (c .before .before .before .args .n) (all-elems (c .before .loop .inv .2) (omega arith))
 
 pub fill-walk-spec : {M : Type 1} → statement M
 fill-walk-spec =
