@@ -4,3 +4,4 @@ pub mod Ring
 pub mod Triangles
 pub mod Clipping
 pub mod Ears
+pub mod Triangulate
