@@ -1,5 +1,6 @@
 -- What an exported call gives back.
 pub mod Given
 pub mod Lookups
+pub mod Polygons
 pub mod Regions
 pub mod Stacks

@@ -2,6 +2,7 @@
 mod answers;
 mod blocks;
 mod numbers;
+mod polygons;
 mod regions;
 mod rings;
 mod solids;

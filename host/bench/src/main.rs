@@ -1,6 +1,7 @@
 //! Times of the unchanged Rust and of Rattle on the same inputs, in turns; the best of many. Not a test.
 mod blocks;
 mod inputs;
+mod polygons;
 mod regions;
 mod stacks;
 
@@ -19,6 +20,7 @@ fn main() {
     rectangle("rectangle, 512 points on four corners", &corners);
     bounding_box("bounding box, circle of 512 points", &circle);
     roots("square root, of a million (Rust: hardware)", &inputs::values(1_000_000));
+    polygons::rows();
     regions::rows();
     stacks::rows();
     blocks::rows();

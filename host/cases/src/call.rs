@@ -138,10 +138,6 @@ impl Call {
         }
     }
 
-    pub fn named(name: &str) -> Option<Call> {
-        CALLS.into_iter().find(|call| call.name() == name)
-    }
-
     /// The blocks it is lent, in order.
     pub fn blocks(self) -> &'static [Kind] {
         match self {

@@ -1,6 +1,7 @@
 //! What is expected of a case: a refusal of document 01, or else what the unchanged Rust answers. Of a call on name
 //! blocks it is document 01's answer, held to the Rust's.
 mod lookups;
+pub mod polygons;
 mod regions;
 pub mod stacks;
 

@@ -4,6 +4,7 @@ pub mod call;
 pub mod case;
 pub mod expected;
 pub mod paper;
+pub mod polygons;
 pub mod regions;
 pub mod stacks;
 

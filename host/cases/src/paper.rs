@@ -1,5 +1,6 @@
 //! Document 01's refusals, transcribed: the first that applies, or 0. Calls on name blocks are answered whole.
 pub mod blocks;
+pub mod polygons;
 mod regions;
 pub mod stacks;
 

@@ -31,7 +31,7 @@ pub fn ring(r: &mut Random, number: u64) -> Ring {
 }
 
 /// Past 512 points, mostly by one.
-fn lengthen(r: &mut Random, ring: &mut Ring) {
+pub fn lengthen(r: &mut Random, ring: &mut Ring) {
     let count = if r.one_in(50) { 65_539 } else { r.pick(&[513, 513, 514, 1000]) };
     ring.resize(count, (1.0, 0.0));
 }

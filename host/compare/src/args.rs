@@ -1,5 +1,4 @@
 //! The command line.
-use cases::call::Call;
 use std::time::Duration;
 
 pub const USAGE: &str = "\
@@ -13,18 +12,16 @@ pub struct Args {
     pub cases: u64,
     pub seed: u64,
     pub seconds: Option<Duration>,
-    pub call: Option<Call>,
-    /// `assemble_stack` is the call named.
-    pub stacks: bool,
+    pub call: Option<String>,
     pub number: Option<u64>,
 }
 
 pub fn read() -> Result<Args, String> {
-    let mut args = Args { cases: 100_000, seed: 1, seconds: None, call: None, stacks: false, number: None };
+    let mut args = Args { cases: 100_000, seed: 1, seconds: None, call: None, number: None };
     let mut words = std::env::args().skip(1);
     while let Some(word) = words.next() {
         if word == "--roots" {
-            args.call = Some(Call::Sqrt);
+            args.call = Some("sqrt".into());
             args.cases = 1_000_000;
             continue;
         }
@@ -33,13 +30,12 @@ pub fn read() -> Result<Args, String> {
             "--cases" => args.cases = whole(&value)?,
             "--seed" => args.seed = whole(&value)?,
             "--seconds" => args.seconds = Some(Duration::from_secs(whole(&value)?)),
-            "--call" if value == "assemble_stack" => args.stacks = true,
-            "--call" => args.call = Some(Call::named(&value).ok_or(format!("no call {value}"))?),
+            "--call" => args.call = Some(value),
             "--number" => args.number = Some(whole(&value)?),
             _ => return Err(format!("{word} is not known")),
         }
     }
-    if args.number.is_some() && args.call.is_none() && !args.stacks {
+    if args.number.is_some() && args.call.is_none() {
         return Err("--number asks for --call".into());
     }
     Ok(args)

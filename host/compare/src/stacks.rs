@@ -1,4 +1,5 @@
 //! The comparison of `assemble_stack`.
+use crate::compared::Compared;
 use crate::tally::{show_bytes, show_list};
 use cases::expected;
 use cases::stacks::{Given, Job, REFUSALS, WAYS};
@@ -23,8 +24,16 @@ pub struct Stacks {
     mismatches: u64,
 }
 
-impl Stacks {
-    pub fn run(&mut self, seed: u64, numbers: std::ops::Range<u64>) {
+impl Compared for Stacks {
+    fn name(&self) -> &'static str {
+        "assemble_stack"
+    }
+
+    fn share(&self, cases: u64) -> u64 {
+        cases / 5
+    }
+
+    fn run(&mut self, seed: u64, numbers: std::ops::Range<u64>) {
         for number in numbers {
             let job = Job::draw(seed, number);
             let expected = expected::stacks::answer(&job);
@@ -33,6 +42,16 @@ impl Stacks {
         }
     }
 
+    fn failed(&self) -> bool {
+        self.mismatches > 0 || self.jobs >= ENOUGH && self.never_drawn()
+    }
+
+    fn shown(&self, seed: u64, number: u64) -> String {
+        Shown { job: &Job::draw(seed, number), seed, number }.to_string()
+    }
+}
+
+impl Stacks {
     fn hold(&mut self, job: &Job, expected: &Result<Given, u32>, seed: u64, number: u64) {
         let (said, expected) = (answer(job), Stacked::expected(job, expected));
         if said.same(&expected) {
@@ -71,15 +90,11 @@ impl Stacks {
         let statuses = [0].iter().chain(&REFUSALS).map(|status| self.by_status[*status as usize]);
         statuses.chain(self.by_outcome).chain(self.by_way).chain([self.asked]).any(|cases| cases == 0)
     }
-
-    pub fn failed(&self) -> bool {
-        self.mismatches > 0 || self.jobs >= ENOUGH && self.never_drawn()
-    }
 }
 
 impl fmt::Display for Stacks {
     fn fmt(&self, f: &mut fmt::Formatter) -> fmt::Result {
-        write!(f, "{:26}{:9} cases;  0: {}", "assemble_stack", self.jobs, self.by_status[0])?;
+        write!(f, "{:26}{:9} cases;  0: {}", self.name(), self.jobs, self.by_status[0])?;
         for refusal in REFUSALS {
             write!(f, "  {refusal}: {}", self.by_status[refusal as usize])?;
         }
@@ -99,10 +114,10 @@ impl fmt::Display for Stacks {
 }
 
 /// A job with its input.
-pub struct Shown<'a> {
-    pub job: &'a Job,
-    pub seed: u64,
-    pub number: u64,
+struct Shown<'a> {
+    job: &'a Job,
+    seed: u64,
+    number: u64,
 }
 
 impl fmt::Display for Shown<'_> {

@@ -1,4 +1,5 @@
 //! What came of the cases of one call.
+use crate::compared::Compared;
 use cases::call::Call;
 use cases::case::{Answer, Case};
 use cases::expected;
@@ -12,7 +13,7 @@ const PRINTED: u64 = 5;
 const ENOUGH: u64 = 1000;
 
 pub struct Tally {
-    pub call: Call,
+    call: Call,
     cases: u64,
     by_status: [u64; 17],
     by_kind: Vec<u64>,
@@ -22,22 +23,6 @@ pub struct Tally {
 impl Tally {
     pub fn new(call: Call) -> Self {
         Tally { call, cases: 0, by_status: [0; 17], by_kind: vec![0; call.kinds().len()], mismatches: 0 }
-    }
-
-    /// Runs these cases on both sides.
-    pub fn run(&mut self, seed: u64, numbers: std::ops::Range<u64>) {
-        for number in numbers {
-            let case = Case::draw(self.call, seed, number);
-            let expected = expected::answer(&case);
-            let said = rattle::answer(&case);
-            self.count(&case, &expected);
-            if said.answer != expected || said.stray {
-                self.mismatches += 1;
-                if self.mismatches <= PRINTED {
-                    print!("MISMATCH {}", Shown { case: &case, seed, number });
-                }
-            }
-        }
     }
 
     fn count(&mut self, case: &Case, expected: &Answer) {
@@ -52,9 +37,42 @@ impl Tally {
         let statuses = [0].iter().chain(self.call.refusals());
         statuses.map(|status| self.by_status[*status as usize]).chain(self.by_kind.iter().copied()).any(|cases| cases == 0)
     }
+}
 
-    pub fn failed(&self) -> bool {
+impl Compared for Tally {
+    fn name(&self) -> &'static str {
+        self.call.name()
+    }
+
+    fn share(&self, cases: u64) -> u64 {
+        match self.call {
+            Call::Sqrt => 12 * cases,
+            Call::ExtrudePolygon | Call::ExtrudeBox | Call::TotalVolume => cases / 5,
+            _ => cases,
+        }
+    }
+
+    fn run(&mut self, seed: u64, numbers: std::ops::Range<u64>) {
+        for number in numbers {
+            let case = Case::draw(self.call, seed, number);
+            let expected = expected::answer(&case);
+            let said = rattle::answer(&case);
+            self.count(&case, &expected);
+            if said.answer != expected || said.stray {
+                self.mismatches += 1;
+                if self.mismatches <= PRINTED {
+                    print!("MISMATCH {}", Shown { case: &case, seed, number });
+                }
+            }
+        }
+    }
+
+    fn failed(&self) -> bool {
         self.mismatches > 0 || self.cases >= ENOUGH && self.never_drawn()
+    }
+
+    fn shown(&self, seed: u64, number: u64) -> String {
+        Shown { case: &Case::draw(self.call, seed, number), seed, number }.to_string()
     }
 }
 
@@ -78,10 +96,10 @@ impl fmt::Display for Tally {
 }
 
 /// A case with its input by bits, and what each side says.
-pub struct Shown<'a> {
-    pub case: &'a Case,
-    pub seed: u64,
-    pub number: u64,
+struct Shown<'a> {
+    case: &'a Case,
+    seed: u64,
+    number: u64,
 }
 
 impl fmt::Display for Shown<'_> {

@@ -2,6 +2,7 @@
 pub mod exports;
 mod lookups;
 mod outputs;
+pub mod polygons;
 mod regions;
 pub mod stacks;
 
