@@ -8,7 +8,7 @@ pub mod WalkLaws
 pub mod TriangulateLaws
 pub mod Demand
 pub mod Written
-pub mod Shapes
+pub mod Paper
 pub mod RingLaws
 pub mod Crossing
 pub mod EarLaws

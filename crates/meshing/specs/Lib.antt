@@ -5,3 +5,4 @@ pub mod Triangles
 pub mod Clipping
 pub mod Ears
 pub mod Triangulate
+pub mod Paper
