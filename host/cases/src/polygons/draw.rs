@@ -1,12 +1,12 @@
 //! Rings of every shape, direction, size and place; some are written by hand, some are damaged.
-use super::{repeats, room, shapes, simple, Job};
+use super::{repeats, room, shapes, simple, Call, Job};
 use crate::expected::polygons::kept;
 use crate::numbers::{self, MOST};
 use crate::random::Random;
 use crate::rings::{self, Ring};
 
-/// Its own number among the calls, so that no other call draws the same.
-const CLEANING: u64 = 1001;
+/// Their own numbers among the calls, so that no other call draws the same.
+const STREAMS: u64 = 1001;
 
 const SHAPES: [&[(f64, f64)]; 8] = [
     // The computed difference is 2^-52, the exact one below it.
@@ -25,11 +25,16 @@ const SHAPES: [&[(f64, f64)]; 8] = [
 
 const BY_HAND: usize = rings::BY_HAND + SHAPES.len();
 
-pub fn cleaning(seed: u64, number: u64) -> Job {
-    let r = &mut Random::of_case(seed, CLEANING, number);
+pub fn job(call: Call, seed: u64, number: u64) -> Job {
+    let r = &mut Random::of_case(seed, STREAMS + call as u64, number);
     let (xs, ys) = lists(r, number);
-    let points = kept(&xs, &ys).len();
-    Job { xs, ys, room: room::ring(r, points) }
+    let points = kept(&xs, &ys);
+    let room = room::ring(r, points);
+    let corners = match call {
+        Call::DedupRing => 0,
+        Call::TriangulatePolygon => room::list(r, 3 * points.saturating_sub(2)),
+    };
+    Job { call, xs, ys, room, corners }
 }
 
 /// The two lists of a ring, some of them damaged.
