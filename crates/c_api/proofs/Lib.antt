@@ -5,4 +5,4 @@ pub mod SolidCalls
 pub mod Copies
 pub mod Rows
 pub mod StackRows
-pub mod CleanedRings
+pub mod PolygonCalls

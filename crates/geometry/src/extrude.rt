@@ -15,6 +15,7 @@ use openrdson_core::Check;
 use openrdson_core::Judged;
 use openrdson_core::Material;
 use openrdson_core::Point;
+use openrdson_core::PolygonNumber;
 use openrdson_core::Refusal;
 use openrdson_core::Solid;
 use openrdson_core::is_axis_aligned_rectangle;
@@ -92,7 +93,7 @@ fn region_of(extruded: Extruded, z_bottom: f64, z_top: f64, material: Material, 
             if material.0 > LARGEST_MATERIAL {
                 return Built::Refused(Refusal::OutsideList);
             }
-            Built::Region(labelled(material.0, net, NO_POLYGON, solid))
+            Built::Region(labelled(material, net, PolygonNumber(NO_POLYGON), solid))
         }
     }
 }

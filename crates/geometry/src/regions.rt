@@ -48,13 +48,13 @@ pub fn are_regions_even(
 }
 
 // A solid with its numbers.
-pub fn labelled(material: u32, net: u32, polygon: u32, solid: Solid) -> SolidRegion
-    ensures { λ r. ⌜ r ≡ theRegion material net polygon solid ⌝ }
+pub fn labelled(material: Material, net: u32, polygon: PolygonNumber, solid: Solid) -> SolidRegion
+    ensures { λ r. ⌜ r ≡ theRegion (material .0) net (polygon .0) solid ⌝ }
 {
     SolidRegion {
-        material_id: Material(material),
+        material_id: material,
         net,
-        source_polygon: PolygonNumber(polygon),
+        source_polygon: polygon,
         solid,
     }
 }
@@ -101,7 +101,7 @@ pub fn region_at(
             z_bottom,
             z_top,
         };
-        return Built::Region(labelled(material, net, polygon, solid));
+        return Built::Region(labelled(Material(material), net, PolygonNumber(polygon), solid));
     }
     if kind != 1 {
         return Built::Refused(Refusal::OutsideList);
@@ -117,5 +117,5 @@ pub fn region_at(
         start,
         count,
     };
-    Built::Region(labelled(material, net, polygon, solid))
+    Built::Region(labelled(Material(material), net, PolygonNumber(polygon), solid))
 }

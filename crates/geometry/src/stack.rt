@@ -23,6 +23,7 @@ use crate::rows::put_region;
 use crate::table::fill_plans;
 use crate::table::plan_of_layer;
 use openrdson_core::Check;
+use openrdson_core::PolygonNumber;
 use openrdson_core::Refusal;
 use openrdson_core::check_blocks;
 
@@ -68,7 +69,7 @@ fn place_polygon(
         Plan::Skipped(outcome) => Placed { outcome, rows: 0 },
         Plan::Between(z0, z1, material) => {
             let solid = polygon_solid(start, count, xs, ys, z0, z1);
-            let region = labelled(material.0, net, polygon, solid);
+            let region = labelled(material, net, PolygonNumber(polygon), solid);
             put_region(
                 kinds,
                 min_x,

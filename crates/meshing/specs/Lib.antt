@@ -4,3 +4,5 @@ pub mod Ring
 pub mod Triangles
 pub mod Clipping
 pub mod Ears
+pub mod Triangulate
+pub mod Paper

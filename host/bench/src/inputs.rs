@@ -12,6 +12,11 @@ fn ring(points: Vec<Point>) -> Ring {
     Ring { points, xs, ys }
 }
 
+/// The ring of these points.
+pub fn of(points: Vec<(f64, f64)>) -> Ring {
+    ring(points.into_iter().map(|(x, y)| Point::new(x, y)).collect())
+}
+
 pub fn circle(n: usize) -> Ring {
     let angle = |i| i as f64 * std::f64::consts::TAU / n as f64;
     ring((0..n).map(|i| Point::new(100.0 * angle(i).cos(), 100.0 * angle(i).sin())).collect())

@@ -1,20 +1,29 @@
-//! Jobs of the call on a ring that writes lists, `dedup_ring`: what is lent, and the kinds of answers.
+//! Jobs of the calls on a ring that write lists: what is lent, and what is given.
 mod draw;
 mod repeats;
 mod room;
 pub mod shapes;
 mod simple;
 
-/// A ring, and the lengths of the two lists that it is written to.
+#[derive(Clone, Copy, PartialEq)]
+pub enum Call {
+    DedupRing,
+    TriangulatePolygon,
+}
+
+/// A ring, and the lengths of the lists that are written: two for the cleaned ring, one for the corners, which cleaning is not lent.
 pub struct Job {
+    pub call: Call,
     pub xs: Vec<f64>,
     pub ys: Vec<f64>,
     pub room: [usize; 2],
+    pub corners: usize,
 }
 
-/// What cleaning gives.
+/// The cleaned ring, and three corners a triangle.
 pub struct Given {
     pub ring: Vec<(f64, f64)>,
+    pub corners: Vec<u32>,
     pub kinds: Vec<Kind>,
 }
 
@@ -29,24 +38,70 @@ pub enum Kind {
     LastDropped,
     /// The cleaned ring, cleaned again, would lose a point.
     AgainDropped,
+    /// No ear was cut.
+    OneTriangle,
+    /// Ears were cut in the ring's direction, since its area is above zero; against it; in it, since it has no area.
+    Forward,
+    Reversed,
+    NoArea,
+    /// After an ear or more, the last three, taken untested, lie on a line, or turn the wrong way.
+    LastFlat,
+    LastTurned,
 }
 
 use Kind::*;
 
-pub const KINDS: [(Kind, &str); 5] = [
-    (NoPoint, "no point"),
-    (AllKept, "all kept"),
-    (Dropped, "dropped"),
-    (LastDropped, "last dropped"),
-    (AgainDropped, "again dropped"),
-];
+pub const KINDS: usize = LastTurned as usize + 1;
 
-/// The refusals of the call, in document 01's order.
-pub const REFUSALS: [u32; 4] = [16, 2, 1, 12];
+impl Kind {
+    pub fn name(self) -> &'static str {
+        match self {
+            NoPoint => "no point",
+            AllKept => "all kept",
+            Dropped => "dropped",
+            LastDropped => "last dropped",
+            AgainDropped => "again dropped",
+            OneTriangle => "one triangle",
+            Forward => "forward",
+            Reversed => "reversed",
+            NoArea => "no area",
+            LastFlat => "last flat",
+            LastTurned => "last turned",
+        }
+    }
+}
+
+impl Call {
+    /// The exported name without `openrdson_`.
+    pub fn name(self) -> &'static str {
+        match self {
+            Call::DedupRing => "dedup_ring",
+            Call::TriangulatePolygon => "triangulate_polygon",
+        }
+    }
+
+    /// The refusals it has, in document 01's order.
+    pub fn refusals(self) -> &'static [u32] {
+        match self {
+            Call::DedupRing => &[16, 2, 1, 12],
+            Call::TriangulatePolygon => &[16, 2, 1, 3, 4, 12],
+        }
+    }
+
+    /// The kinds of answers that are counted; each must be drawn.
+    pub fn kinds(self) -> &'static [Kind] {
+        match self {
+            Call::DedupRing => &[NoPoint, AllKept, Dropped, LastDropped, AgainDropped],
+            Call::TriangulatePolygon => {
+                &[AllKept, Dropped, LastDropped, AgainDropped, OneTriangle, Forward, Reversed, NoArea, LastFlat, LastTurned]
+            }
+        }
+    }
+}
 
 impl Job {
     /// The job of this number; it depends on nothing else.
-    pub fn draw(seed: u64, number: u64) -> Job {
-        draw::cleaning(seed, number)
+    pub fn draw(call: Call, seed: u64, number: u64) -> Job {
+        draw::job(call, seed, number)
     }
 }

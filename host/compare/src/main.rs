@@ -7,8 +7,9 @@ mod tally;
 
 use args::Args;
 use cases::call::CALLS;
+use cases::polygons::Call;
 use compared::Compared;
-use polygons::Cleaning;
+use polygons::Polygons;
 use stacks::Stacks;
 use std::process::ExitCode;
 use std::time::Instant;
@@ -38,7 +39,8 @@ fn main() -> ExitCode {
 fn named(args: &Args) -> Result<Calls, String> {
     let mut calls: Calls = CALLS.into_iter().map(|call| Box::new(Tally::new(call)) as Box<dyn Compared>).collect();
     calls.push(Box::new(Stacks::default()));
-    calls.push(Box::new(Cleaning::default()));
+    calls.push(Box::new(Polygons::new(Call::DedupRing)));
+    calls.push(Box::new(Polygons::new(Call::TriangulatePolygon)));
     if let Some(name) = &args.call {
         calls.retain(|call| call.name() == name);
         if calls.is_empty() {

@@ -1,5 +1,5 @@
-//! `dedup_ring`, and what it left in the lists that it was lent.
-use cases::polygons::{Given, Job};
+//! The calls on a ring that write lists, and what they left in those that they were lent.
+use cases::polygons::{Call, Given, Job};
 
 type List = *const f64;
 type Out = *mut f64;
@@ -8,64 +8,88 @@ extern "C" {
     pub fn openrdson_dedup_ring(
         xs: List, nx: usize, ys: List, ny: usize, out_x: Out, n1: usize, out_y: Out, n2: usize, points: *mut usize,
     ) -> u32;
+    pub fn openrdson_triangulate_polygon(
+        xs: List, nx: usize, ys: List, ny: usize, out_x: Out, n1: usize, out_y: Out, n2: usize,
+        corners: *mut u32, n3: usize, vertices: *mut usize, triangles: *mut usize,
+    ) -> u32;
 }
 
 /// What is in every entry before the call, and past the end of each list.
+const NUMBER: u32 = 0xa5a5_a5a5;
 const WORD: u64 = 0xa5a5_a5a5_a5a5_a5a5;
 
 /// Entries past the end of each list, which the call is not lent.
 const PAST: usize = 2;
 
-/// The status, and what was written to, after the call.
-pub struct Cleaned {
+/// The status, and what was written to, after the call; cleaning gives no triangles.
+pub struct Left {
     pub status: u32,
     pub points: usize,
+    pub triangles: usize,
     pub lists: [Vec<f64>; 2],
+    pub corners: Vec<u32>,
 }
 
-impl Cleaned {
+impl Left {
     /// Before the call.
-    pub fn before(job: &Job) -> Cleaned {
-        let lists = job.room.map(|room| vec![f64::from_bits(WORD); room + PAST]);
-        Cleaned { status: 0, points: WORD as usize, lists }
+    pub fn before(job: &Job) -> Left {
+        Left {
+            status: 0,
+            points: WORD as usize,
+            triangles: WORD as usize,
+            lists: job.room.map(|room| vec![f64::from_bits(WORD); room + PAST]),
+            corners: vec![NUMBER; job.corners + PAST],
+        }
     }
 
-    /// What is expected: a refusal leaves everything, an accepted call writes its ring at the beginning and leaves the rest.
-    pub fn expected(job: &Job, answer: &Result<Given, u32>) -> Cleaned {
-        let mut after = Cleaned::before(job);
-        match answer {
-            Ok(given) => {
-                after.points = given.ring.len();
-                for (i, (x, y)) in given.ring.iter().enumerate() {
-                    after.lists[0][i] = *x;
-                    after.lists[1][i] = *y;
-                }
+    /// What is expected: a refusal leaves everything, an accepted call writes at the beginning of its lists and leaves the rest.
+    pub fn expected(job: &Job, answer: &Result<Given, u32>) -> Left {
+        let mut after = Left::before(job);
+        let given = match answer {
+            Ok(given) => given,
+            Err(refusal) => {
+                after.status = *refusal;
+                return after;
             }
-            Err(refusal) => after.status = *refusal,
+        };
+        after.points = given.ring.len();
+        for (i, (x, y)) in given.ring.iter().enumerate() {
+            after.lists[0][i] = *x;
+            after.lists[1][i] = *y;
+        }
+        if job.call == Call::TriangulatePolygon {
+            after.triangles = given.corners.len() / 3;
+            after.corners[..given.corners.len()].copy_from_slice(&given.corners);
         }
         after
     }
 
     /// Whether every entry is the same, floats by their bits.
-    pub fn same(&self, other: &Cleaned) -> bool {
+    pub fn same(&self, other: &Left) -> bool {
         let same_bits = |a: &[f64], b: &[f64]| a.iter().map(|x| x.to_bits()).eq(b.iter().map(|x| x.to_bits()));
-        self.status == other.status
-            && self.points == other.points
+        (self.status, self.points, self.triangles) == (other.status, other.points, other.triangles)
+            && self.corners == other.corners
             && self.lists.iter().zip(&other.lists).all(|(a, b)| same_bits(a, b))
     }
 }
 
-pub fn cleaned(job: &Job) -> Cleaned {
-    let mut after = Cleaned::before(job);
-    clean(job, &mut after);
+pub fn answer(job: &Job) -> Left {
+    let mut after = Left::before(job);
+    call(job, &mut after);
     after
 }
 
 /// The call on these lists.
-pub fn clean(job: &Job, after: &mut Cleaned) {
+pub fn call(job: &Job, after: &mut Left) {
     let [x, y] = after.lists.each_mut().map(|list| (list.as_mut_ptr(), list.len() - PAST));
-    let (xs, ys) = (&job.xs, &job.ys);
+    let corners = (after.corners.as_mut_ptr(), after.corners.len() - PAST);
+    let (xs, nx, ys, ny) = (job.xs.as_ptr(), job.xs.len(), job.ys.as_ptr(), job.ys.len());
     after.status = unsafe {
-        openrdson_dedup_ring(xs.as_ptr(), xs.len(), ys.as_ptr(), ys.len(), x.0, x.1, y.0, y.1, &mut after.points)
+        match job.call {
+            Call::DedupRing => openrdson_dedup_ring(xs, nx, ys, ny, x.0, x.1, y.0, y.1, &mut after.points),
+            Call::TriangulatePolygon => openrdson_triangulate_polygon(
+                xs, nx, ys, ny, x.0, x.1, y.0, y.1, corners.0, corners.1, &mut after.points, &mut after.triangles,
+            ),
+        }
     };
 }

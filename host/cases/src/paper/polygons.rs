@@ -1,9 +1,9 @@
-//! Cleaning a ring.
+//! Cleaning a ring, and the refusals of cleaning and of triangulating that ask for no triangle.
 use super::ring;
 use crate::polygons::{Job, Kind};
 use Kind::*;
 
-/// "Cleaning, area, rectangle: 16, 2, 1"; the lists that are written are of equal length too.
+/// "Cleaning, area, rectangle: 16, 2, 1", and so triangulating; the lists that are written are of equal length too.
 pub fn fault(job: &Job) -> u32 {
     if job.room[0] != job.room[1] {
         return 16;
@@ -11,9 +11,9 @@ pub fn fault(job: &Job) -> u32 {
     ring(&job.xs, &job.ys)
 }
 
-/// "cleaning then 12"
-pub fn has_room(job: &Job, points: usize) -> bool {
-    points <= job.room[0]
+/// "12 output list too short": three corners a triangle.
+pub fn has_room(job: &Job, points: usize, triangles: usize) -> bool {
+    points <= job.room[0] && 3 * triangles <= job.corners
 }
 
 /// "differ from the last kept by less than 2^-52"

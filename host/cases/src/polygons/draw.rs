@@ -1,12 +1,12 @@
 //! Rings of every shape, direction, size and place; some are written by hand, some are damaged.
-use super::{repeats, room, shapes, simple, Job};
+use super::{repeats, room, shapes, simple, Call, Job};
 use crate::expected::polygons::kept;
 use crate::numbers::{self, MOST};
 use crate::random::Random;
 use crate::rings::{self, Ring};
 
-/// Its own number among the calls, so that no other call draws the same.
-const CLEANING: u64 = 1001;
+/// Their own numbers among the calls, so that no other call draws the same.
+const STREAMS: u64 = 1001;
 
 const SHAPES: [&[(f64, f64)]; 8] = [
     // The computed difference is 2^-52, the exact one below it.
@@ -26,16 +26,21 @@ const SHAPES: [&[(f64, f64)]; 8] = [
 /// Those of `rings`, those above, and large ones.
 const BY_HAND: usize = rings::BY_HAND + SHAPES.len() + LARGE;
 
-pub fn cleaning(seed: u64, number: u64) -> Job {
-    let r = &mut Random::of_case(seed, CLEANING, number);
-    if number < BY_HAND as u64 {
-        let (xs, ys): (Vec<f64>, Vec<f64>) = by_hand(r, number as usize).into_iter().unzip();
-        let points = kept(&xs, &ys).len();
-        return Job { xs, ys, room: [points; 2] };
+pub fn job(call: Call, seed: u64, number: u64) -> Job {
+    let r = &mut Random::of_case(seed, STREAMS + call as u64, number);
+    let is_by_hand = number < BY_HAND as u64;
+    let (xs, ys) = if is_by_hand { by_hand(r, number as usize).into_iter().unzip() } else { lists(r, number) };
+    let points = kept(&xs, &ys);
+    let corners = match call {
+        Call::DedupRing => 0,
+        Call::TriangulatePolygon => 3 * points.saturating_sub(2),
+    };
+    if is_by_hand {
+        return Job { call, xs, ys, room: [points; 2], corners };
     }
-    let (xs, ys) = lists(r, number);
-    let points = kept(&xs, &ys).len();
-    Job { xs, ys, room: room::ring(r, points) }
+    let room = room::ring(r, points);
+    let corners = if corners == 0 { 0 } else { room::list(r, corners) };
+    Job { call, xs, ys, room, corners }
 }
 
 fn by_hand(r: &mut Random, number: usize) -> Ring {

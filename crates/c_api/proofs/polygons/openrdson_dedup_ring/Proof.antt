@@ -1,5 +1,5 @@
 -- `openrdson_dedup_ring` meets its contract: the lists are the call's, the count is given. Assumes nothing.
-use Rattle.c_api.proofs.CleanedRings.{given-ring}
+use Rattle.c_api.proofs.PolygonCalls.{given-ring}
 use borrow.Author.Needs.{needs}
 use Rattle.c_api.proofs.polygons.openrdson_dedup_ring.Statement.{statement}
 use Rattle.c_api.proofs.polygons.openrdson_dedup_ring.Tie as tie

@@ -22,7 +22,7 @@ loop-holds : tie.Need-loop-holds Inv-loop μ-loop
 loop-holds c = (search needs, total-none (theRegions (c .before .before .before .before .before .before .before .before .before .before .before .before .before .before .args .kinds .now) (c .before .before .before .before .before .before .before .before .before .before .before .before .before .before .args .min-x .now) (c .before .before .before .before .before .before .before .before .before .before .before .before .before .before .args .min-y .now) (c .before .before .before .before .before .before .before .before .before .before .before .before .before .before .args .max-x .now) (c .before .before .before .before .before .before .before .before .before .before .before .before .before .before .args .max-y .now) (c .before .before .before .before .before .before .before .before .before .before .before .before .before .before .args .z-bottom .now) (c .before .before .before .before .before .before .before .before .before .before .before .before .before .before .args .z-top .now) (c .before .before .before .before .before .before .before .before .before .before .before .before .before .before .args .starts .now) (c .before .before .before .before .before .before .before .before .before .before .before .before .before .before .args .counts .now) (c .before .before .before .before .before .before .before .before .before .before .before .before .before .before .args .materials .now) (c .before .before .before .before .before .before .before .before .before .before .before .before .before .before .args .nets .now) (c .before .before .before .before .before .before .before .before .before .before .before .before .before .before .args .polygons .now)) (c .before .before .before .before .before .before .before .before .before .before .before .before .before .before .args .xs .now) (c .before .before .before .before .before .before .before .before .before .before .before .before .before .before .args .ys .now))
 
 row-volume-requires : tie.Need-row-volume-requires Inv-loop μ-loop
-row-volume-requires c κs = (c .before .before .before .before .before .before .before .before .before .before .before .before .before .before .before .before .pre, c .loop-test .taken)
+row-volume-requires c κs = (c .before .before .before .before .before .before .before .before .before .before .before .before .before .before .before .before .pre .0, c .loop-test .taken, c .before .before .before .before .before .before .before .before .before .before .before .before .before .before .before .before .pre .1, c .before .before .before .before .before .before .before .before .before .before .before .before .before .before .before .before .pre .2)
 
 enum-known-row : tie.Need-enum-known-row Inv-loop μ-loop
 enum-known-row c = search needs

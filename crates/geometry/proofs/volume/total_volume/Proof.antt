@@ -2,7 +2,7 @@
 use mathlib.Core.Path.{sym, ap, _∙_}
 use Rattle.openrdson_core.specs.Answers.{checkAnswer}
 use Rattle.geometry.specs.Regions.{theRegions, evenRegions}
-use Rattle.geometry.proofs.VolumeLaws.{lists-refused, lists-even, lists-fine}
+use Rattle.geometry.proofs.VolumeLaws.{lists-refused, lists-sound, lists-fine}
 use borrow.Author.Needs.{needs}
 use Rattle.geometry.proofs.volume.total_volume.Statement.{statement}
 use Rattle.geometry.proofs.volume.total_volume.Tie as tie
@@ -21,7 +21,7 @@ enum-told c = search needs
 
 total-of-rows-requires : tie.Need-total-of-rows-requires
 unfolding evenRegions
-total-of-rows-requires c κs = lists-even (theRegions (c .before .before .before .before .before .before .before .before .before .before .before .before .before .before .before .before .before .before .args .kinds .now) (c .before .before .before .before .before .before .before .before .before .before .before .before .before .before .before .before .before .before .args .min-x .now) (c .before .before .before .before .before .before .before .before .before .before .before .before .before .before .before .before .before .before .args .min-y .now) (c .before .before .before .before .before .before .before .before .before .before .before .before .before .before .before .before .before .before .args .max-x .now) (c .before .before .before .before .before .before .before .before .before .before .before .before .before .before .before .before .before .before .args .max-y .now) (c .before .before .before .before .before .before .before .before .before .before .before .before .before .before .before .before .before .before .args .z-bottom .now) (c .before .before .before .before .before .before .before .before .before .before .before .before .before .before .before .before .before .before .args .z-top .now) (c .before .before .before .before .before .before .before .before .before .before .before .before .before .before .before .before .before .before .args .starts .now) (c .before .before .before .before .before .before .before .before .before .before .before .before .before .before .before .before .before .before .args .counts .now) (c .before .before .before .before .before .before .before .before .before .before .before .before .before .before .before .before .before .before .args .materials .now) (c .before .before .before .before .before .before .before .before .before .before .before .before .before .before .before .before .before .before .args .nets .now) (c .before .before .before .before .before .before .before .before .before .before .before .before .before .before .before .before .before .before .args .polygons .now)) (c .before .before .before .before .before .before .before .before .before .before .before .before .before .before .before .before .before .before .args .xs .now) (c .before .before .before .before .before .before .before .before .before .before .before .before .before .before .before .before .before .before .args .ys .now) (c .before .before .before .are-regions-even .ensures) (sym (c .before .before .lists-check .ensures) ∙ ap checkAnswer (c .enum-told .given .1))
+total-of-rows-requires c κs = lists-sound (theRegions (c .before .before .before .before .before .before .before .before .before .before .before .before .before .before .before .before .before .before .args .kinds .now) (c .before .before .before .before .before .before .before .before .before .before .before .before .before .before .before .before .before .before .args .min-x .now) (c .before .before .before .before .before .before .before .before .before .before .before .before .before .before .before .before .before .before .args .min-y .now) (c .before .before .before .before .before .before .before .before .before .before .before .before .before .before .before .before .before .before .args .max-x .now) (c .before .before .before .before .before .before .before .before .before .before .before .before .before .before .before .before .before .before .args .max-y .now) (c .before .before .before .before .before .before .before .before .before .before .before .before .before .before .before .before .before .before .args .z-bottom .now) (c .before .before .before .before .before .before .before .before .before .before .before .before .before .before .before .before .before .before .args .z-top .now) (c .before .before .before .before .before .before .before .before .before .before .before .before .before .before .before .before .before .before .args .starts .now) (c .before .before .before .before .before .before .before .before .before .before .before .before .before .before .before .before .before .before .args .counts .now) (c .before .before .before .before .before .before .before .before .before .before .before .before .before .before .before .before .before .before .args .materials .now) (c .before .before .before .before .before .before .before .before .before .before .before .before .before .before .before .before .before .before .args .nets .now) (c .before .before .before .before .before .before .before .before .before .before .before .before .before .before .before .before .before .before .args .polygons .now)) (c .before .before .before .before .before .before .before .before .before .before .before .before .before .before .before .before .before .before .args .xs .now) (c .before .before .before .before .before .before .before .before .before .before .before .before .before .before .before .before .before .before .args .ys .now) (c .before .before .before .are-regions-even .ensures) (sym (c .before .before .lists-check .ensures) ∙ ap checkAnswer (c .enum-told .given .1))
 
 returns : tie.Need-returns
 unfolding evenRegions
