@@ -23,32 +23,59 @@ const SHAPES: [&[(f64, f64)]; 8] = [
     &[(0.0, 0.0), (2.0, 0.0), (1.0, 1.0), (2.0, 2.0), (0.0, 2.0), (1.0, 1.0)],
 ];
 
-const BY_HAND: usize = rings::BY_HAND + SHAPES.len();
+/// Those of `rings`, those above, and large ones.
+const BY_HAND: usize = rings::BY_HAND + SHAPES.len() + LARGE;
 
 pub fn job(call: Call, seed: u64, number: u64) -> Job {
     let r = &mut Random::of_case(seed, STREAMS + call as u64, number);
-    let (xs, ys) = lists(r, number);
+    let is_by_hand = number < BY_HAND as u64;
+    let (xs, ys) = if is_by_hand { by_hand(r, number as usize).into_iter().unzip() } else { lists(r, number) };
     let points = kept(&xs, &ys);
-    let room = room::ring(r, points);
     let corners = match call {
         Call::DedupRing => 0,
-        Call::TriangulatePolygon => room::list(r, 3 * points.saturating_sub(2)),
+        Call::TriangulatePolygon => 3 * points.saturating_sub(2),
     };
+    if is_by_hand {
+        return Job { call, xs, ys, room: [points; 2], corners };
+    }
+    let room = room::ring(r, points);
+    let corners = if corners == 0 { 0 } else { room::list(r, corners) };
     Job { call, xs, ys, room, corners }
+}
+
+fn by_hand(r: &mut Random, number: usize) -> Ring {
+    if number < rings::BY_HAND {
+        return rings::ring(r, number as u64);
+    }
+    let place = number - rings::BY_HAND;
+    SHAPES.get(place).map_or_else(|| large(place - SHAPES.len()), |shape| shape.to_vec())
+}
+
+const LARGE: usize = 6;
+
+/// Rings of about 512 points.
+fn large(place: usize) -> Ring {
+    match place {
+        0 => shapes::circle(512),
+        1 => shapes::star(512),
+        2 => shapes::comb(512),
+        3 => shapes::spiral(512, 16),
+        4 => shapes::crossing(512, 3),
+        _ => shapes::keyholes(72),
+    }
 }
 
 /// The two lists of a ring, some of them damaged.
 fn lists(r: &mut Random, number: u64) -> (Vec<f64>, Vec<f64>) {
-    let by_hand = number < BY_HAND as u64;
     let mut ring = ring(r, number);
-    if !by_hand && r.one_in(40) {
+    if r.one_in(40) {
         rings::lengthen(r, &mut ring);
     }
     let (mut xs, mut ys): (Vec<f64>, Vec<f64>) = ring.into_iter().unzip();
-    if !by_hand && r.one_in(20) {
+    if r.one_in(20) {
         rings::spoil(r, &mut xs, &mut ys);
     }
-    if !by_hand && r.one_in(30) {
+    if r.one_in(30) {
         rings::unequal(r, &mut xs, &mut ys);
     }
     (xs, ys)
@@ -56,12 +83,6 @@ fn lists(r: &mut Random, number: u64) -> (Vec<f64>, Vec<f64>) {
 
 /// A ring of admitted coordinates.
 fn ring(r: &mut Random, number: u64) -> Ring {
-    if number < rings::BY_HAND as u64 {
-        return rings::ring(r, number);
-    }
-    if let Some(shape) = SHAPES.get(number as usize - rings::BY_HAND) {
-        return shape.to_vec();
-    }
     let n = count(r);
     let mut ring = match r.below(5) {
         0 => rings::ring(r, number),
