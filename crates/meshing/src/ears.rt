@@ -157,7 +157,8 @@ fn put_triangle(out: &mut [u32], t: usize, a: usize, b: usize, c: usize)
     out[t + 2] = c as u32;
 }
 
-// Cuts ears off a walk until three vertices remain, and writes the corners of all triangles. The walk is used up.
+// Cuts ears off a walk until three vertices remain, and writes the corners of all triangles. The walk is used up. For callers whose walk is of a ring's vertices and
+// has three or more, and who have room for the corners.
 pub fn clip_walk(xs: &[f64], ys: &[f64], walk: &mut [usize], out: &mut [u32]) -> Cut
     requires { ⌜ (length (now ys) ≡ length (now xs)) × (length (now xs) ≤ 512) × (3 ≤ length (now walk)) × Below (length (now xs)) (now walk) × ((length (now walk) - 2) * 3 ≤ length (now out)) ⌝ }
     ensures { λ r. ⌜ cutAnswer r (take ((length (now (walk .entry)) - 2) * 3) (now (out .exit))) ≡ mapAnswer corners (clip (spec.isEar (now (xs .entry)) (now (ys .entry))) (now (walk .entry))) ⌝ }

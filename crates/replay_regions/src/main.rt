@@ -1,6 +1,6 @@
 // Replays recorded answers about regions on the proved calls, and says how many differ, bit for bit.
+mod entries;
 mod extrusions;
-mod lists;
 mod places;
 mod report;
 mod run;

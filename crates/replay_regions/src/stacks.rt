@@ -1,12 +1,12 @@
 // Stacking: the record's region lists and outcomes are those after the call.
-use crate::lists::FLOAT_BEFORE;
-use crate::lists::KIND_BEFORE;
-use crate::lists::NUMBER_BEFORE;
-use crate::lists::numbers_at;
-use crate::lists::same_kinds;
-use crate::lists::same_numbers;
-use crate::lists::same_reals;
-use crate::lists::shorts_at;
+use crate::entries::FLOAT_BEFORE;
+use crate::entries::KIND_BEFORE;
+use crate::entries::NUMBER_BEFORE;
+use crate::entries::numbers_at;
+use crate::entries::same_kinds;
+use crate::entries::same_numbers;
+use crate::entries::same_reals;
+use crate::entries::shorts_at;
 use crate::places::block;
 use crate::places::points_place;
 use crate::places::small_at;

@@ -1,7 +1,7 @@
 // The total volume of the record's region lists.
-use crate::lists::kinds_at;
-use crate::lists::numbers_at;
-use crate::lists::reals_at;
+use crate::entries::kinds_at;
+use crate::entries::numbers_at;
+use crate::entries::reals_at;
 use crate::places::points_place;
 use crate::places::small_at;
 use geometry::total_volume;

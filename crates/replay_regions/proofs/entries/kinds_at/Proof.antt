@@ -1,10 +1,10 @@
--- `numbers_at` is safe and ends: the list keeps its length. Assumes nothing.
+-- `kinds_at` is safe and ends: the list keeps its length. Assumes nothing.
 use mathlib.Core.Path.{_≡_}
 use Prim.Native.Nat.{_-_}
 use borrow.Author.Needs.{needs}
 use lib.ListN.{length}
-use Rattle.replay_regions.proofs.lists.numbers_at.Statement.{statement}
-use Rattle.replay_regions.proofs.lists.numbers_at.Tie as tie
+use Rattle.replay_regions.proofs.entries.kinds_at.Statement.{statement}
+use Rattle.replay_regions.proofs.entries.kinds_at.Tie as tie
 
 abbrev Inv-loop : tie.InvT-loop
 Inv-loop «record» i from list₀ k₀ list k = 16 ≡ length list
@@ -24,11 +24,8 @@ add-word c = search needs
 word-requires : tie.Need-word-requires Inv-loop μ-loop
 word-requires c κs = search needs
 
-narrow-requires : tie.Need-narrow-requires Inv-loop μ-loop
-narrow-requires c κs = search needs
-
-mul-list : tie.Need-mul-list Inv-loop μ-loop
-mul-list c = search needs
+byte-requires : tie.Need-byte-requires Inv-loop μ-loop
+byte-requires c κs = search needs
 
 array-write-list : tie.Need-array-write-list Inv-loop μ-loop
 array-write-list c = search needs
@@ -45,8 +42,8 @@ loop-again c = search needs
 returns : tie.Need-returns Inv-loop μ-loop
 returns c = search needs
 
-pub numbers-at-spec : {M : Type 1} → statement M
-numbers-at-spec =
+pub kinds-at-spec : {M : Type 1} → statement M
+kinds-at-spec =
     tie.close
     (tie.spec
     Inv-loop
@@ -55,8 +52,7 @@ numbers-at-spec =
     loop-holds
     add-word
     word-requires
-    narrow-requires
-    mul-list
+    byte-requires
     array-write-list
     add-k
     loop-less

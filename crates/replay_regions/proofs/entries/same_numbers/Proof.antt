@@ -1,8 +1,8 @@
--- `same_kinds` is safe and ends. Assumes nothing.
+-- `same_numbers` is safe and ends. Assumes nothing.
 use Prim.Native.Nat.{_-_}
 use borrow.Author.Needs.{needs}
-use Rattle.replay_regions.proofs.lists.same_kinds.Statement.{statement}
-use Rattle.replay_regions.proofs.lists.same_kinds.Tie as tie
+use Rattle.replay_regions.proofs.entries.same_numbers.Statement.{statement}
+use Rattle.replay_regions.proofs.entries.same_numbers.Tie as tie
 
 abbrev Inv-loop : tie.InvT-loop
 Inv-loop list «record» i k₀ k = Unit {0}
@@ -13,14 +13,17 @@ abbrev μ-loop : tie.MeasureT-loop
 loop-holds : tie.Need-loop-holds Inv-loop μ-loop
 loop-holds c = search needs
 
-element-copy-out-wide : tie.Need-element-copy-out-wide Inv-loop μ-loop
-element-copy-out-wide c = search needs
+mul-wider : tie.Need-mul-wider Inv-loop μ-loop
+mul-wider c = search needs
 
-wide-requires : tie.Need-wide-requires Inv-loop μ-loop
-wide-requires c κs = search needs
+element-copy-out-wider : tie.Need-element-copy-out-wider Inv-loop μ-loop
+element-copy-out-wider c = search needs
 
-wide-requires-2 : tie.Need-wide-requires-2 Inv-loop μ-loop
-wide-requires-2 c κs = search needs
+wider-requires : tie.Need-wider-requires Inv-loop μ-loop
+wider-requires c κs = search needs
+
+wider-requires-2 : tie.Need-wider-requires-2 Inv-loop μ-loop
+wider-requires-2 c κs = search needs
 
 entry-requires : tie.Need-entry-requires Inv-loop μ-loop
 entry-requires c κs = search needs
@@ -40,16 +43,17 @@ loop-again c = search needs
 returns-2 : tie.Need-returns-2 Inv-loop μ-loop
 returns-2 c = search needs
 
-pub same-kinds-spec : {M : Type 1} → statement M
-same-kinds-spec =
+pub same-numbers-spec : {M : Type 1} → statement M
+same-numbers-spec =
     tie.close
     (tie.spec
     Inv-loop
     μ-loop
     loop-holds
-    element-copy-out-wide
-    wide-requires
-    wide-requires-2
+    mul-wider
+    element-copy-out-wider
+    wider-requires
+    wider-requires-2
     entry-requires
     returns
     add-k

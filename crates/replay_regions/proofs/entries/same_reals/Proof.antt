@@ -1,8 +1,8 @@
 -- `same_reals` is safe and ends. Assumes nothing.
 use Prim.Native.Nat.{_-_}
 use borrow.Author.Needs.{needs}
-use Rattle.replay_regions.proofs.lists.same_reals.Statement.{statement}
-use Rattle.replay_regions.proofs.lists.same_reals.Tie as tie
+use Rattle.replay_regions.proofs.entries.same_reals.Statement.{statement}
+use Rattle.replay_regions.proofs.entries.same_reals.Tie as tie
 
 abbrev Inv-loop : tie.InvT-loop
 Inv-loop list «record» i k₀ k = Unit {0}

@@ -1,8 +1,8 @@
--- `same_numbers` is safe and ends. Assumes nothing.
+-- `same_kinds` is safe and ends. Assumes nothing.
 use Prim.Native.Nat.{_-_}
 use borrow.Author.Needs.{needs}
-use Rattle.replay_regions.proofs.lists.same_numbers.Statement.{statement}
-use Rattle.replay_regions.proofs.lists.same_numbers.Tie as tie
+use Rattle.replay_regions.proofs.entries.same_kinds.Statement.{statement}
+use Rattle.replay_regions.proofs.entries.same_kinds.Tie as tie
 
 abbrev Inv-loop : tie.InvT-loop
 Inv-loop list «record» i k₀ k = Unit {0}
@@ -13,17 +13,14 @@ abbrev μ-loop : tie.MeasureT-loop
 loop-holds : tie.Need-loop-holds Inv-loop μ-loop
 loop-holds c = search needs
 
-mul-wider : tie.Need-mul-wider Inv-loop μ-loop
-mul-wider c = search needs
+element-copy-out-wide : tie.Need-element-copy-out-wide Inv-loop μ-loop
+element-copy-out-wide c = search needs
 
-element-copy-out-wider : tie.Need-element-copy-out-wider Inv-loop μ-loop
-element-copy-out-wider c = search needs
+wide-requires : tie.Need-wide-requires Inv-loop μ-loop
+wide-requires c κs = search needs
 
-wider-requires : tie.Need-wider-requires Inv-loop μ-loop
-wider-requires c κs = search needs
-
-wider-requires-2 : tie.Need-wider-requires-2 Inv-loop μ-loop
-wider-requires-2 c κs = search needs
+wide-requires-2 : tie.Need-wide-requires-2 Inv-loop μ-loop
+wide-requires-2 c κs = search needs
 
 entry-requires : tie.Need-entry-requires Inv-loop μ-loop
 entry-requires c κs = search needs
@@ -43,17 +40,16 @@ loop-again c = search needs
 returns-2 : tie.Need-returns-2 Inv-loop μ-loop
 returns-2 c = search needs
 
-pub same-numbers-spec : {M : Type 1} → statement M
-same-numbers-spec =
+pub same-kinds-spec : {M : Type 1} → statement M
+same-kinds-spec =
     tie.close
     (tie.spec
     Inv-loop
     μ-loop
     loop-holds
-    mul-wider
-    element-copy-out-wider
-    wider-requires
-    wider-requires-2
+    element-copy-out-wide
+    wide-requires
+    wide-requires-2
     entry-requires
     returns
     add-k
