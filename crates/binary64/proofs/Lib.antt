@@ -2,6 +2,7 @@
 pub mod Values
 pub mod Sizes
 pub mod Order
+pub mod Signs
 pub mod Differences
 pub mod Ceilings
 pub mod Halves

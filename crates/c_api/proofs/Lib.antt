@@ -6,3 +6,4 @@ pub mod Copies
 pub mod Rows
 pub mod StackRows
 pub mod PolygonCalls
+pub mod MeshCalls

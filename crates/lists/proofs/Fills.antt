@@ -5,7 +5,7 @@
 --     put-set       one element stored right after: the same for a run of one
 --     put-sets      a run of stores, as straight-line code leaves it
 --     runs-more, elems-more     one more run, one more element, at the code's n + 1
---     put-whole                 a run as long as the list
+--     put-whole, put-start      a run as long as the list; the start of a list that a run was written over
 --     elems-same, elems-front   equal elements; the first and the others
 --     elems-at, put-at          an entry of what was written
 -- Assumes nothing.
@@ -32,6 +32,11 @@ module _ {A : Type 0} where
       let past : length l ≤ 0 + length new = omega (arith, e) in
       rw (drop-of-length-le l past) (append-nil new)
 
+  -- the start of a list that a run was written over
+  pub put-start : (l new : List A) {l′ : List A} {n : ℕ} → l′ ≡ put l 0 new → n ≡ length new → take n l′ ≡ new
+  unfolding put
+  put-start l new {l′} {n} e f = ap (take n) e ∙ take-at new _ n (sym f)
+
   head-length : (l : List A) (at : ℕ) (new : List A) → at + length new ≤ length l → length (take at l ++ new) ≡ at + length new
   head-length l at new h = rw (length-append, length-take-le at l (omega arith))
 
@@ -57,7 +62,10 @@ module _ {A : Type 0} where
   unfolding put
   put-sets l p vs h = sets-eq vs l p h
 
-  -- eight stores, one after the other
+  -- three stores, and eight, one after the other
+  pub put-three : (l : List A) (p : ℕ) (a b c : A) → p + 3 ≤ length l → set (set (set l p a) (p + 1) b) (p + 2) c ≡ put l p (a ∷ b ∷ c ∷ [])
+  put-three l p a b c room = rw (add-one, add-two) (put-sets l p (a ∷ b ∷ c ∷ []) room)
+
   pub put-eight : (l : List A) (p : ℕ) (a b c d e f g h : A) → p + 8 ≤ length l
       → set (set (set (set (set (set (set (set l p a) (p + 1) b) (p + 2) c) (p + 3) d) (p + 4) e) (p + 5) f) (p + 6) g) (p + 7) h
       ≡ put l p (a ∷ b ∷ c ∷ d ∷ e ∷ f ∷ g ∷ h ∷ [])

@@ -1,10 +1,10 @@
 -- Parts of a list: `part start count l`, and the rest from a place on. Assumes nothing.
 use mathlib.Core.Path.{_≡_, refl, sym, ap, _∙_, subst}
-use mathlib.Core.List.{List, [], _∷_}
+use mathlib.Core.List.{List, [], _∷_, _++_, append-nil}
 use Prim.Native.Nat.{ℕ, zero, suc, _+_, _*_, _-_, _≤_, _<_}
 use native.Mathlib.Omega.{arith}
-use lib.ListN.{length, getD, take, drop, length-take, length-drop}
-use lib.Seq.{take-all, drop-cons, drop-drop, take-take, getD-take, getD-drop}
+use lib.ListN.{length, getD, take, drop, length-append, length-take, length-drop, drop-of-length-le}
+use lib.Seq.{length-take-le, take-all, drop-cons, drop-at, drop-drop, take-take, getD-take, getD-drop}
 use Rattle.lists.specs.Lists.{part}
 
 drop-of-take : {A : Type 0} (start count w : ℕ) (l : List A) → start + count ≤ w → take count (drop start (take w l)) ≡ take count (drop start l)
@@ -65,3 +65,19 @@ module _ {A : Type 0} (l : List A) where
   -- what holds of every entry of the list holds of its own
   pub rest-each : (P : A → Type 0) (other : A) → ((k : ℕ) → P (getD l k other)) → (i k : ℕ) → P (getD (drop i l) k other)
   rest-each P other each i k = subst P (sym (getD-drop i l k other)) (each (i + k))
+
+-- ---- the rest from a place on, lent as l[at..], when it comes back as new
+
+module _ {A : Type 0} (l : List A) (at : ℕ) (new : List A) (h : at ≤ length l) (e : length new ≡ length (drop at l)) where
+  pub rest-back-is : take at l ++ (new ++ drop (length l - at) (drop at l)) ≡ take at l ++ new
+  rest-back-is =
+      let short : length (drop at l) ≤ length l - at = omega (arith, length-drop at l) in
+      let none : drop (length l - at) (drop at l) ≡ [] = drop-of-length-le (drop at l) short in
+      ap (λ (x : List A). take at l ++ (new ++ x)) none ∙ ap (λ (x : List A). take at l ++ x) (append-nil new)
+
+  pub rest-back-long : length (take at l ++ (new ++ drop (length l - at) (drop at l))) ≡ length l
+  rest-back-long = ap length rest-back-is ∙ omega (arith, length-append (take at l) new, length-take-le at l h, length-drop at l, e)
+
+  pub rest-back-later : drop (at + 1) (take at l ++ (new ++ drop (length l - at) (drop at l))) ≡ drop 1 new
+  rest-back-later =
+      ap (drop (at + 1)) rest-back-is ∙ sym (drop-drop 1 at (take at l ++ new)) ∙ ap (drop 1) (drop-at (take at l) new at (length-take-le at l h))

@@ -6,7 +6,7 @@ use Prim.Native.Nat.{ℕ, zero, suc, _+_, _-_, _≤_, _<_}
 use native.Mathlib.Nat.{not-suc-le-zero, le-of-suc-le-suc, le-refl}
 use native.Mathlib.Omega.{arith}
 use lib.Dec.{ltb}
-use lib.ListN.{length, getD, take, length-map}
+use lib.ListN.{length, getD, take, drop, length-map}
 use lib.Seq.{take-suc, take-length}
 use borrow.Author.Tests.{ltb-true, lt-ltb, le-ltb}
 use Rattle.lists.specs.Lists.{runs, elems, Below, gather, nextOf, prevOf}
@@ -34,6 +34,15 @@ module _ (n : ℕ) where
   below-take [] (suc m) b = tt
   below-take (k ∷ ks) (suc m) b = (b .0, below-take ks m (b .1))
 
+  pub below-drop : (ks : List ℕ) (m : ℕ) → Below n ks → Below n (drop m ks)
+  below-drop ks zero b = b
+  below-drop [] (suc m) b = tt
+  below-drop (k ∷ ks) (suc m) b = below-drop ks m (b .1)
+
+  pub below-append : (ks ls : List ℕ) → Below n ks → Below n ls → Below n (ks ++ ls)
+  below-append [] ls b c = c
+  below-append (k ∷ ks) ls b c = (b .0, below-append ks ls (b .1) c)
+
   pub below-more : (ks : List ℕ) (i : ℕ) → Below n ks → i < n → Below n (ks ++ i ∷ [])
   below-more [] i b h = (h, tt)
   below-more (k ∷ ks) i b h = (b .0, below-more ks i (b .1) h)
@@ -59,3 +68,7 @@ module _ (n : ℕ) where
       at : (b : Bool) → ltb 0 i ≡ b → cond b (i - 1) (n - 1) < n
       at true e = omega arith
       at false e = omega arith
+
+pub below-wider : (n m : ℕ) (ks : List ℕ) → n ≤ m → Below n ks → Below m ks
+below-wider n m [] h b = tt
+below-wider n m (k ∷ ks) h b = (omega (arith, b .0), below-wider n m ks h (b .1))

@@ -12,14 +12,11 @@ use lib.Seq.{length-take-le, take-at, take-suc, take-length, drop-cons, drop-at,
 use Rattle.lists.specs.Answer.{Answer, refused, given, mapAnswer}
 use Rattle.lists.specs.Lists.{Below, first, nextOf, prevOf, put}
 use Rattle.lists.proofs.Fills.{put-sets, put-length}
-use Rattle.lists.proofs.Places.{below-at, below-take}
+use Rattle.lists.proofs.Places.{below-at, below-take, below-drop, below-append}
+use Rattle.lists.proofs.Parts.{rest-back-long, rest-back-later}
 use Rattle.lists.proofs.Searches.{first-below}
 use Rattle.meshing.specs.Triangles.{Triangle, tri, corners}
 use Rattle.meshing.specs.Clipping.{triangleAt, without, cutAt, cutting, clip}
-
--- three stores, one after the other
-pub put-three : (l : List ℕ) (p a b c : ℕ) → p + 3 ≤ length l → set (set (set l p a) (p + 1) b) (p + 2) c ≡ put l p (a ∷ b ∷ c ∷ [])
-put-three l p a b c room = rw (add-one, add-two) (put-sets l p (a ∷ b ∷ c ∷ []) room)
 
 -- ---- a place taken out of a walk
 
@@ -75,22 +72,8 @@ cut-written w i p q is-p is-q out t now e =
 
 -- ---- places stay below n
 
-module _ (n : ℕ) where
-  below-drop : (ks : List ℕ) (m : ℕ) → Below n ks → Below n (drop m ks)
-  below-drop ks zero b = b
-  below-drop [] (suc m) b = tt
-  below-drop (k ∷ ks) (suc m) b = below-drop ks m (b .1)
-
-  below-append : (ks ls : List ℕ) → Below n ks → Below n ls → Below n (ks ++ ls)
-  below-append [] ls b c = c
-  below-append (k ∷ ks) ls b c = (b .0, below-append ks ls (b .1) c)
-
-  below-without : (w : List ℕ) (i : ℕ) → Below n w → Below n (without w i)
-  below-without w i b = below-append (take i w) (drop (i + 1) w) (below-take n w i b) (below-drop w (i + 1) b)
-
-pub below-wider : (n m : ℕ) (ks : List ℕ) → n ≤ m → Below n ks → Below m ks
-below-wider n m [] h b = tt
-below-wider n m (k ∷ ks) h b = (omega (arith, b .0), below-wider n m ks h (b .1))
+below-without : (n : ℕ) (w : List ℕ) (i : ℕ) → Below n w → Below n (without w i)
+below-without n w i b = below-append n (take i w) (drop (i + 1) w) (below-take n w i b) (below-drop n w (i + 1) b)
 
 -- ---- one step of clipping
 
@@ -124,29 +107,6 @@ module _ (ear : List ℕ → ℕ → Bool) (w : List ℕ) where
   clip-cuts i h l f =
       let e : length w - 4 ≡ length (without w i) - 3 = omega (arith, without-length w i l) in
       clip-more h ∙ ap (cutAt (cutting ear (length w - 4)) w) f ∙ ap (λ (k : ℕ). mapAnswer (λ ts. triangleAt w i ∷ ts) (cutting ear k (without w i))) e
-
--- ---- the part of a walk from place `at` on, as it is lent
-
-module _ (w : List ℕ) (at : ℕ) where
-  pub rest-all : take (length w - at) (drop at w) ≡ drop at w
-  rest-all = ap (λ (k : ℕ). take k (drop at w)) (sym (length-drop at w)) ∙ take-length (drop at w)
-
-  module _ (new : List ℕ) (h : at ≤ length w) (l : length new ≡ length (drop at w)) where
-    -- the walk when the part comes back as new
-    back : take at w ++ (new ++ drop (length w - at) (drop at w)) ≡ take at w ++ new
-    back =
-        let short : length (drop at w) ≤ length w - at = omega (arith, length-drop at w) in
-        let e : drop (length w - at) (drop at w) ≡ [] = drop-of-length-le (drop at w) short in
-        ap (λ (x : List ℕ). take at w ++ (new ++ x)) e ∙ ap (λ (x : List ℕ). take at w ++ x) (append-nil new)
-
-    back-long : length (take at w ++ (new ++ drop (length w - at) (drop at w))) ≡ length w
-    back-long = ap length back ∙ omega (arith, length-append (take at w) new, length-take-le at w h, length-drop at w)
-
-    back-later : drop (at + 1) (take at w ++ (new ++ drop (length w - at) (drop at w))) ≡ drop 1 new
-    back-later =
-        ap (drop (at + 1)) back
-        ∙ sym (drop-drop 1 at (take at w ++ new))
-        ∙ ap (drop 1) (drop-at (take at w) new at (length-take-le at w h))
 
 -- ---- the loop: the walk v was handed in, w is the list now, and `at` ears are cut
 
@@ -216,10 +176,10 @@ module _ (ear : List ℕ → ℕ → Bool) (n : ℕ) (v : List ℕ) where
           let t : Triangle = triangleAt rest i in
           let w′ : List ℕ = take at w ++ (new ++ drop (length w - at) (drop at w)) in
           let in-w : at ≤ length w = omega (arith, k .same, k .place) in
-          let later : drop (at + 1) w′ ≡ without rest i = back-later w at new in-w (long ∙ ap length all) ∙ is in
+          let later : drop (at + 1) w′ ≡ without rest i = rest-back-later w at new in-w (long ∙ ap length all) ∙ is in
           record {
             place = omega arith;
-            same = back-long w at new in-w (long ∙ ap length all) ∙ k .same;
+            same = rest-back-long w at new in-w (long ∙ ap length all) ∙ k .same;
             room = omega (arith, k .room, written-long t out′ o);
             below = rw later (below-without n rest i run-below);
             done = k .done ++ t ∷ [];

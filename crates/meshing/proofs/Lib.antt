@@ -13,3 +13,7 @@ pub mod RingLaws
 pub mod Crossing
 pub mod EarLaws
 pub mod ClipLaws
+pub mod CellLaws
+pub mod BoxLaws
+pub mod GridLaws
+pub mod BoxWrites

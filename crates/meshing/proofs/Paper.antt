@@ -3,14 +3,19 @@ use mathlib.Core.Path.{refl}
 use lib.Ieee.{add, sub, mul, div, lt, eq, le, ofBits, ofInt, round}
 use Rattle.lists.specs.Lists.{runs, elems, foldBelow, allBelow, anyBelow, first}
 use Rattle.binary64.specs.Numbers.{atMost, abs}
+use Rattle.binary64.specs.Rounding.{ceilCapped}
 use Rattle.openrdson_core.specs.Points.{ringFault}
 use Rattle.openrdson_core.specs.Area.{shoelace, signedArea}
 use Rattle.openrdson_core.specs.Bounds.{boundsOf}
 use Rattle.openrdson_core.specs.Rectangle.{onCorner, onSomeCorner, fillsCorners, fillsBounds}
 use Rattle.meshing.specs.Ring.{keep, dropLast, kept}
 use Rattle.meshing.specs.Ears.{inTriangle, blocks, isClear, isEarOf, trianglesOf}
+use Rattle.openrdson_core.specs.Mesh.{parallelLengths, withinLengths, fits}
+use Rattle.meshing.specs.Cells.{cellsFor, cellsOf, cellCount, axisAt}
+use Rattle.meshing.specs.Grid.{plane, grid, hexAt, hexPlaces}
+use Rattle.meshing.specs.Boxes.{boxPart, boxFits, boxOf, meshBox}
 use Rattle.meshing.specs.Paper.{AllHold, shapes}
 
 pub paper : AllHold shapes
-unfolding trianglesOf isEarOf isClear blocks inTriangle first allBelow anyBelow runs elems signedArea shoelace foldBelow kept dropLast keep ringFault fillsBounds fillsCorners onSomeCorner onCorner boundsOf atMost abs add sub mul div lt eq le round ofBits ofInt
-paper = (refl, (refl, (refl, (refl, (refl, (refl, (refl, ((refl, refl), (refl, (refl, tt))))))))))
+unfolding meshBox boxOf boxFits boxPart hexPlaces hexAt grid plane axisAt parallelLengths withinLengths fits cellCount cellsOf cellsFor ceilCapped trianglesOf isEarOf isClear blocks inTriangle first allBelow anyBelow runs elems signedArea shoelace foldBelow kept dropLast keep ringFault fillsBounds fillsCorners onSomeCorner onCorner boundsOf atMost abs add sub mul div lt eq le round ofBits ofInt
+paper = (refl, (refl, (refl, (refl, (refl, (refl, (refl, (refl, (refl, (refl, ((refl, refl), (refl, (refl, (refl, (refl, tt)))))))))))))))

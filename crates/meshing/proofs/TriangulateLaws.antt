@@ -11,6 +11,7 @@ use borrow.Author.Tests.{le-leb, lt-leb, eq-eqb, ne-eqb}
 use Rattle.lists.specs.Answer.{Answer, refused, given, unless, andThen, mapAnswer}
 use Rattle.lists.specs.Lists.{put, gather, Below, allBelow}
 use Rattle.lists.proofs.Answers.{refused-given, passed, passed-then, given-same}
+use Rattle.lists.proofs.Fills.{put-start}
 use Rattle.lists.proofs.Scans.{all-at, all-from}
 use Rattle.lists.proofs.Places.{gather-length, below-at}
 use Rattle.binary64.specs.Constants.{zero64}
@@ -28,7 +29,6 @@ use Rattle.meshing.specs.Triangulate.{Cutting, fitted, cutting, triangul
 use Rattle.meshing.specs.declared.triangulate.Triangulated.{Triangulated}
 use Rattle.meshing.specs.declared.triangulate.Triangulated.the-variants.{Counts, Refused}
 use Rattle.meshing.proofs.Written.{triples-corners}
-use Rattle.meshing.proofs.WalkLaws.{written}
 use Rattle.meshing.proofs.Demand.{triangles-triangulation}
 
 -- ---- the points at places of a ring are a ring
@@ -137,10 +137,10 @@ module _ (xs ys : List Float) where
         → ox′ ≡ put ox 0 (gathered xs (c .ring)) → oy′ ≡ put oy 0 (gathered ys (c .ring)) → cs′ ≡ put cs 0 (corners (c .triangles))
         → Triangulation (isForward (take v ox′) (take v oy′)) v (triples (take (t * 3) cs′))
     demand ox oy cs v t f g x y z =
-        let gx : take v _ ≡ gathered xs (c .ring) = written ox (gathered xs (c .ring)) x (f ∙ sym (gather-length nan xs (c .ring))) in
-        let gy : take v _ ≡ gathered ys (c .ring) = written oy (gathered ys (c .ring)) y (f ∙ sym (gather-length nan ys (c .ring))) in
+        let gx : take v _ ≡ gathered xs (c .ring) = put-start ox (gathered xs (c .ring)) x (f ∙ sym (gather-length nan xs (c .ring))) in
+        let gy : take v _ ≡ gathered ys (c .ring) = put-start oy (gathered ys (c .ring)) y (f ∙ sym (gather-length nan ys (c .ring))) in
         let many : t * 3 ≡ length (corners (c .triangles)) = omega (arith, g, corners-length (c .triangles)) in
-        let gc : triples (take (t * 3) _) ≡ c .triangles = ap triples (written cs (corners (c .triangles)) z many) ∙ triples-corners (c .triangles) in
+        let gc : triples (take (t * 3) _) ≡ c .triangles = ap triples (put-start cs (corners (c .triangles)) z many) ∙ triples-corners (c .triangles) in
         let h : v ≡ length (gathered xs (c .ring)) = f ∙ sym (gather-length nan xs (c .ring)) in
         rw (gx, gy, gc, h) (triangles-triangulation (gathered xs (c .ring)) (gathered ys (c .ring)) (c .triangles) e)
 
@@ -207,4 +207,4 @@ module _ (xs ys rx ry : List Float) (m c : ℕ) (e : rx ≡ gathered xs (kept xs
 
 -- the first n places of a list written over with the points at n places
 pub gathered-start : (l : List Float) (old new : List Float) (ks : List ℕ) (n : ℕ) → new ≡ put old 0 (gathered l ks) → n ≡ length ks → take n new ≡ gathered l ks
-gathered-start l old new ks n e h = written old (gathered l ks) e (h ∙ sym (gather-length nan l ks))
+gathered-start l old new ks n e h = put-start old (gathered l ks) e (h ∙ sym (gather-length nan l ks))

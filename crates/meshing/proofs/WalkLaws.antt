@@ -6,9 +6,8 @@ use Prim.Native.Nat.{ℕ, zero, suc, _-_, _≤_, _<_}
 use native.Mathlib.Nat.{le-refl}
 use native.Mathlib.Omega.{arith}
 use lib.ListN.{length, take}
-use lib.Seq.{take-at}
 use Rattle.lists.specs.Lists.{put, runs, elems, Below}
-use Rattle.lists.proofs.Fills.{elems-suc, elems-same, elems-front, elems-length}
+use Rattle.lists.proofs.Fills.{put-start, elems-suc, elems-same, elems-front, elems-length}
 use Rattle.lists.proofs.Places.{below-more}
 use Rattle.meshing.specs.Triangles.{walk}
 
@@ -31,14 +30,9 @@ pub walk-elems : (d : Bool) (n : ℕ) → elems n (walkAt d n) ≡ walk d n
 walk-elems true n = refl
 walk-elems false n = sym (back-elems n)
 
--- the start of a list that a run was written over
-pub written : {A : Type 0} (l new : List A) {l′ : List A} {n : ℕ} → l′ ≡ put l 0 new → n ≡ length new → take n l′ ≡ new
-unfolding put
-written l new {l′} {n} e f = ap (take n) e ∙ take-at new _ n (sym f)
-
 -- the walk round n vertices, filled in
 pub walk-filled : (d : Bool) (l : List ℕ) (n : ℕ) {l′ : List ℕ} → l′ ≡ put l 0 (elems n (walkAt d n)) → take n l′ ≡ walk d n
-walk-filled d l n e = written l (elems n (walkAt d n)) e (sym (elems-length (walkAt d n) n)) ∙ walk-elems d n
+walk-filled d l n e = put-start l (elems n (walkAt d n)) e (sym (elems-length (walkAt d n) n)) ∙ walk-elems d n
 
 -- its vertices are below n
 elems-below : (d : Bool) (n k : ℕ) → k ≤ n → Below n (elems k (walkAt d n))

@@ -4,17 +4,25 @@ use mathlib.Core.Path.{_≡_}
 use mathlib.Core.Bool.{Bool, true}
 use mathlib.Core.List.{List, [], _∷_, map}
 use lib.IntN.{pos}
+use lib.ListN.{length, replicate}
 use lib.Ieee.{Float, binary64, ofInt, ofBits}
-use Rattle.lists.specs.Answer.{Answer, refused, given}
+use Rattle.lists.specs.Answer.{Answer, refused, given, mapAnswer}
+use Rattle.binary64.specs.Constants.{zero64}
 use Rattle.openrdson_core.specs.Points.{ofRing, thePoint}
 use Rattle.openrdson_core.specs.Area.{signedArea}
 use Rattle.openrdson_core.specs.Rectangle.{isRectangle}
+use Rattle.openrdson_core.specs.Bounds.{theBbox}
+use Rattle.openrdson_core.specs.Mesh.{Mesh, theMesh, theCounts}
+use Rattle.openrdson_core.specs.declared.bounds.Bbox.{Bbox}
 use Rattle.openrdson_core.specs.declared.points.Point.{Point}
 use Rattle.meshing.specs.Ring.{kept, gathered}
 use Rattle.meshing.specs.Triangles.{Triangle, tri}
 use Rattle.meshing.specs.Ears.{trianglesOf}
+use Rattle.meshing.specs.Cells.{real, cellCount}
+use Rattle.meshing.specs.Added.{Part}
+use Rattle.meshing.specs.Boxes.{meshBox}
 
--- a ring, and what is said of it
+-- a ring, an axis or a box, and what is said of it
 pub data Shape : Type 0 where
   -- its triangles, or a refusal
   clips : List Point → Answer (List Triangle) → Shape
@@ -22,6 +30,10 @@ pub data Shape : Type 0 where
   measures : List Point → Answer Float → Shape
   -- whether it is a rectangle, and so a box
   isBox : List Point → Answer Bool → Shape
+  -- of an extent and a cell size: the cells
+  counts : Float → Float → Answer ℕ → Shape
+  -- of a box, its two heights and one cell size: how many nodes it has, and the node places of its hexes
+  meshes : Bbox → Float → Float → Float → Answer (ℕ × List ℕ) → Shape
   -- the places that cleaning keeps, and those that cleaning keeps of what is left
   cleans : List Point → List ℕ → List ℕ → Shape
 
@@ -31,11 +43,18 @@ xsOf ps = map (λ (p : Point). p .x) ps
 abbrev pub ysOf : List Point → List Float
 ysOf ps = map (λ (p : Point). p .y) ps
 
+-- a mesh with room for 12 nodes and two elements
+abbrev lent : Mesh
+lent =
+    theMesh (replicate 12 zero64) (replicate 12 zero64) (replicate 12 zero64) (replicate 2 0) (replicate 16 0) (replicate 2 0)
+
 -- what the definitions say is what the shape says
 abbrev pub Holds : Shape → Type 0
 Holds (clips ps a) = trianglesOf (xsOf ps) (ysOf ps) ≡ a
 Holds (measures ps a) = ofRing (xsOf ps) (ysOf ps) (signedArea (xsOf ps) (ysOf ps)) ≡ a
 Holds (isBox ps a) = ofRing (xsOf ps) (ysOf ps) (isRectangle (xsOf ps) (ysOf ps)) ≡ a
+Holds (counts e c a) = cellCount e c ≡ a
+Holds (meshes b z0 z1 cell a) = mapAnswer (λ (p : Part). (length (p .xs), p .places)) (meshBox b z0 z1 1 (record { «lateral_cell» = cell; «z_cell» = cell }) (theCounts 0 0) lent) ≡ a
 Holds (cleans ps ks js) = (kept (xsOf ps) (ysOf ps) ≡ ks) × (kept (gathered (xsOf ps) ks) (gathered (ysOf ps) ks) ≡ js)
 
 abbrev pub AllHold : List Shape → Type 0
@@ -57,6 +76,13 @@ right-of-origin = thePoint (ofBits binary64 0x3ca5_9e05_f1e2_674d) (ofInt binary
 abbrev minusHalf : Float
 minusHalf = ofBits binary64 0xbfe0_0000_0000_0000
 
+-- 2 + 2^-40 and 2 + 2^-38
+abbrev hardlyOverTwo : Float
+hardlyOverTwo = ofBits binary64 0x4000_0000_0000_0800
+
+abbrev overTwo : Float
+overTwo = ofBits binary64 0x4000_0000_0000_2000
+
 abbrev pub shapes : List Shape
 shapes =
     clips (pt 0 0 ∷ pt 2 0 ∷ pt 2 2 ∷ pt 0 2 ∷ []) (given (tri 3 0 1 ∷ tri 1 2 3 ∷ []))
@@ -66,9 +92,16 @@ shapes =
     ∷ clips (pt 0 0 ∷ pt 1 1 ∷ pt 2 2 ∷ pt 3 3 ∷ []) (refused 4)
     ∷ clips (pt 0 0 ∷ pt 1 1 ∷ pt 2 2 ∷ []) (given (tri 0 1 2 ∷ []))
     ∷ isBox (pt 0 0 ∷ pt 1 1 ∷ pt 1 0 ∷ pt 0 1 ∷ []) (given true)
+    ∷ meshes (theBbox (real 0) (real 0) (real 2) (real 1)) (real 0) (real 1) (real 1)
+    (given (12, 0 ∷ 1 ∷ 4 ∷ 3 ∷ 6 ∷ 7 ∷ 10 ∷ 9 ∷ 1 ∷ 2 ∷ 5 ∷ 4 ∷ 7 ∷ 8 ∷ 11 ∷ 10 ∷ []))
+    ∷ counts hardlyOverTwo (real 1) (given 2)
+    ∷ counts overTwo (real 1) (given 3)
     -- cleaning once before clipping
     ∷ cleans (pt 0 0 ∷ pt 2 1 ∷ pt 1 2 ∷ left-of-origin ∷ right-of-origin ∷ []) (0 ∷ 1 ∷ 2 ∷ 3 ∷ []) (0 ∷ 1 ∷ 2 ∷ [])
     -- beside the paper's: the first corner turns right and is passed over; a vertex on a triangle's side
     ∷ clips (pt 1 1 ∷ pt 0 4 ∷ pt 0 0 ∷ pt 4 0 ∷ []) (given (tri 0 1 2 ∷ tri 0 2 3 ∷ []))
     ∷ clips (pt 0 0 ∷ pt 4 0 ∷ pt 2 2 ∷ pt 0 4 ∷ []) (given (tri 0 1 2 ∷ tri 0 2 3 ∷ []))
+    -- not P: the most cells of an axis, and one more
+    ∷ counts (real 4096) (real 1) (given 4096)
+    ∷ counts (real 4097) (real 1) (refused 7)
     ∷ []

@@ -1,6 +1,7 @@
 //! Times of the unchanged Rust and of Rattle on the same inputs, in turns; the best of many. Not a test.
 mod blocks;
 mod inputs;
+mod meshes;
 mod polygons;
 mod regions;
 mod stacks;
@@ -21,12 +22,14 @@ fn main() {
     bounding_box("bounding box, circle of 512 points", &circle);
     roots("square root, of a million (Rust: hardware)", &inputs::values(1_000_000));
     polygons::rows();
+    meshes::rows();
     regions::rows();
     stacks::rows();
     blocks::rows();
 }
 
 /// How often a side is timed, the calls in one timing, and the values that a call works on.
+#[derive(Clone, Copy)]
 struct Effort {
     rounds: usize,
     calls: usize,

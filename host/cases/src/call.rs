@@ -1,7 +1,7 @@
 //! The calls compared: their numbers, names, blocks, refusals and outputs.
 use crate::blocks::Kind;
 
-/// Each call by its number in the recorded answers; those from 22 to 39 are not recorded.
+/// Each call by its number in the recorded answers; those from 22 to 39 and from 44 on are not recorded.
 #[derive(Clone, Copy, PartialEq, Debug)]
 #[repr(u64)]
 pub enum Call {
@@ -47,11 +47,13 @@ pub enum Call {
     ExtrudePolygon,
     ExtrudeBox,
     TotalVolume,
+    CellCount = 44,
+    AxisCoordinate,
 }
 
 use Call::*;
 
-pub const CALLS: [Call; 42] = [
+pub const CALLS: [Call; 44] = [
     PolygonSignedArea, PolygonArea, IsCcw, IsAxisAlignedRectangle, BboxFromPoints,
     BoxVolume, PrismVolume, BoxFootprintBbox, PrismFootprintBbox,
     Sqrt, Abs, CeilCapped, NearestCapped,
@@ -61,6 +63,7 @@ pub const CALLS: [Call; 42] = [
     BoxZBottom, BoxZTop, PrismZBottom, PrismZTop, BoxRegionVolume, PrismRegionVolume,
     CopyPhysicalName,
     ExtrudePolygon, ExtrudeBox, TotalVolume,
+    CellCount, AxisCoordinate,
 ];
 
 /// The calls that are recorded: those on numbers, and those on name blocks and names.
@@ -135,6 +138,8 @@ impl Call {
             ExtrudePolygon => "extrude_polygon",
             ExtrudeBox => "extrude_box",
             TotalVolume => "total_volume",
+            CellCount => "cell_count",
+            AxisCoordinate => "axis_coordinate",
         }
     }
 
@@ -168,6 +173,8 @@ impl Call {
             ExtrudePolygon => &[16, 2, 1, 15],
             ExtrudeBox => &[1, 15],
             TotalVolume => &[16, 2, 15, 1],
+            CellCount => &[1, 5, 6, 7],
+            AxisCoordinate => &[1, 5, 6, 7, 15],
             CheckBlocks | StackLayer => &[14, 1],
             LookUp | PhysicalName | LayerName | ViaLayers | MaterialNumber => &[14],
             _ => &[],
@@ -185,6 +192,8 @@ impl Call {
             StackLayer | ViaLayers => &["none", "found"],
             ExtrudePolygon => &["box", "prism"],
             TotalVolume => &["no region", "regions"],
+            CellCount => &["one", "more", "4,096"],
+            AxisCoordinate => &["repeated", "last", "first of -0", "first", "between"],
             _ => &[],
         }
     }
@@ -195,7 +204,7 @@ impl Call {
         match self {
             IsCcw | IsAxisAlignedRectangle | BboxIsEmpty | IsMarker | LookUp => &[Truth],
             CoordinateInRange | ExtentInRange | FigureInRange => &[Truth],
-            CeilCapped | NearestCapped => &[Whole],
+            CeilCapped | NearestCapped | CellCount => &[Whole],
             BboxFromPoints | BoxFootprintBbox | PrismFootprintBbox => &[Float; 4],
             BboxEmpty | BboxExtendPoint | BboxExtend | BboxUnion => &[Float; 4],
             BboxCenter => &[Float; 2],

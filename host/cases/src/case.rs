@@ -4,7 +4,7 @@ use crate::call::Call;
 use crate::call::Call::*;
 use crate::random::Random;
 use crate::regions::Regions;
-use crate::{boxes, extrusions, lookups, numbers, rings, roots, solids, totals};
+use crate::{axes, boxes, extrusions, lookups, numbers, rings, roots, solids, totals};
 use std::borrow::Cow;
 
 /// A list of coordinates; the longest ones are made once and lent.
@@ -13,6 +13,7 @@ pub type List = Cow<'static, [f64]>;
 /// What a call is given. Parameters are floats by their bits, or whole numbers:
 /// a box its six bounds; a prism z_bottom, z_top, start, count; a method of Bbox the four bounds,
 /// then the other box's or the point; a call on one number, that number; `layer_name`, the layer's number; `copy_physical_name`, the room.
+/// The cell count has an extent and a cell size, the axis coordinate two ends, a cell size and a place.
 /// A region has its material, net and polygon too; what is extruded, z_bottom and z_top, or six bounds, with a material and a net. Lent are the call's
 /// blocks, then the name asked for.
 pub struct Case {
@@ -87,6 +88,8 @@ impl Case {
             ExtrudePolygon => extrusions::polygon(r, number),
             ExtrudeBox => extrusions::boxed(r),
             TotalVolume => totals::draw(r, number),
+            CellCount => axes::count(r, number),
+            AxisCoordinate => axes::coordinate(r, number),
             Sqrt => Case::of_numbers(call, &[roots::draw(r, number)]),
             Abs => Case::of_numbers(call, &[numbers::any(r)]),
             CheckBlocks | LookUp | PhysicalName | CopyPhysicalName | LayerName | StackLayer | ViaLayers
@@ -144,6 +147,11 @@ impl Case {
     /// A prism's count.
     pub fn count(&self) -> u32 {
         self.params[3] as u32
+    }
+
+    /// The place on an axis.
+    pub fn place(&self) -> u64 {
+        self.params[3]
     }
 
     /// How many bytes a name is copied to.

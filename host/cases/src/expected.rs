@@ -1,6 +1,7 @@
 //! What is expected of a case: a refusal of document 01, or else what the unchanged Rust answers. Of a call on name
 //! blocks it is document 01's answer, held to the Rust's.
 mod lookups;
+pub mod meshes;
 pub mod polygons;
 mod regions;
 pub mod stacks;
@@ -9,6 +10,7 @@ use crate::call::Call::*;
 use crate::case::{Answer, Case};
 use crate::paper;
 use oracle::core::geometry::*;
+use oracle::meshing::reach::{cells_for, linspace};
 
 pub fn answer(case: &Case) -> Answer {
     if case.call.blocks().is_empty() && !case.call.asks_name() {
@@ -29,9 +31,24 @@ pub fn kind(case: &Case, answer: &Answer) -> Option<usize> {
         _ if answer.status != 0 || case.call.kinds().is_empty() => None,
         LayerName => Some((answer.values[1] != 0) as usize),
         CopyPhysicalName => Some((answer.values[0] != 0) as usize),
+        CellCount => Some(if answer.values[0] == 1 { 0 } else if answer.values[0] < 4096 { 1 } else { 2 }),
+        AxisCoordinate => Some(axis_kind(case)),
         TotalVolume => Some(!case.regions.kinds.is_empty() as usize),
         MaterialNumber => Some(paper::blocks::material_kind(answer.values[0], case.block(0), case.block(1))),
         _ => Some(answer.values[0] as usize),
+    }
+}
+
+/// Where on its axis a place is: its coordinate is one of a neighbour too; the last; the first, of -0 or not; between.
+fn axis_kind(case: &Case) -> usize {
+    let (axis, place) = (axis(case), case.place() as usize);
+    let near = &axis[place.saturating_sub(1)..(place + 2).min(axis.len())];
+    match place {
+        _ if near.windows(2).any(|two| two[0] == two[1]) => 0,
+        _ if place == axis.len() - 1 => 1,
+        0 if case.float(0).to_bits() == (-0.0f64).to_bits() => 2,
+        0 => 3,
+        _ => 4,
     }
 }
 
@@ -90,8 +107,16 @@ fn of_the_rust(case: &Case) -> Answer {
         ExtrudePolygon => regions::polygon(case),
         ExtrudeBox => regions::boxed(case),
         TotalVolume => regions::total(case),
+        CellCount => Answer::whole(cells_for(x, case.float(1)) as u64),
+        AxisCoordinate => Answer::floats(&[axis(case)[case.place() as usize]]),
         _ => unreachable!("{} is not a call on numbers", case.call.name()),
     }
+}
+
+/// Every coordinate of an axis.
+fn axis(case: &Case) -> Vec<f64> {
+    let [min, max, cell] = case.floats();
+    linspace(min, max, cells_for(max - min, cell))
 }
 
 fn truth(value: bool) -> Answer {

@@ -3,11 +3,13 @@ pub mod blocks;
 pub mod call;
 pub mod case;
 pub mod expected;
+pub mod meshes;
 pub mod paper;
 pub mod polygons;
 pub mod regions;
 pub mod stacks;
 
+mod axes;
 mod boxes;
 mod damage;
 mod extrusions;

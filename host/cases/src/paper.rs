@@ -1,5 +1,7 @@
 //! Document 01's refusals, transcribed: the first that applies, or 0. Calls on name blocks are answered whole.
 pub mod blocks;
+pub mod cells;
+pub mod meshes;
 pub mod polygons;
 mod regions;
 pub mod stacks;
@@ -18,6 +20,8 @@ pub fn status(case: &Case) -> u32 {
         PrismVolume | PrismFootprintBbox | PrismRegionVolume => prism(case),
         ExtrudePolygon => regions::extruded_polygon(case),
         ExtrudeBox => regions::extruded_box(case),
+        CellCount => cells::count(case),
+        AxisCoordinate => cells::coordinate(case),
         TotalVolume => regions::total(&case.regions, &case.xs, &case.ys),
         _ => 0,
     }

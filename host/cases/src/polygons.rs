@@ -1,7 +1,7 @@
 //! Jobs of the calls on a ring that write lists: what is lent, and what is given.
 mod draw;
 mod repeats;
-mod room;
+pub(crate) mod room;
 pub mod shapes;
 mod simple;
 

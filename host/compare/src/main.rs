@@ -1,6 +1,7 @@
 //! Runs seeded cases of every call on the unchanged Rust and on Rattle, and compares the answers bit for bit.
 mod args;
 mod compared;
+mod meshes;
 mod polygons;
 mod stacks;
 mod tally;
@@ -9,6 +10,7 @@ use args::Args;
 use cases::call::CALLS;
 use cases::polygons::Call;
 use compared::Compared;
+use meshes::Meshes;
 use polygons::Polygons;
 use stacks::Stacks;
 use std::process::ExitCode;
@@ -41,6 +43,7 @@ fn named(args: &Args) -> Result<Calls, String> {
     calls.push(Box::new(Stacks::default()));
     calls.push(Box::new(Polygons::new(Call::DedupRing)));
     calls.push(Box::new(Polygons::new(Call::TriangulatePolygon)));
+    calls.push(Box::new(Meshes::default()));
     if let Some(name) = &args.call {
         calls.retain(|call| call.name() == name);
         if calls.is_empty() {

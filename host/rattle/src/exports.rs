@@ -90,6 +90,9 @@ extern "C" {
         xs: List, nx: usize, ys: List, ny: usize, volume: Out,
     ) -> u32;
 
+    pub fn openrdson_cell_count(extent: f64, cell: f64, cells: *mut usize) -> u32;
+    pub fn openrdson_axis_coordinate(min: f64, max: f64, cell: f64, place: usize, coordinate: Out) -> u32;
+
     pub fn openrdson_sqrt(x: f64) -> f64;
     pub fn openrdson_abs(x: f64) -> f64;
     pub fn openrdson_ceil_capped(x: f64) -> u64;

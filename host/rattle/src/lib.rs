@@ -1,6 +1,7 @@
 //! The Rattle side: its C functions, and its answer to a case.
 pub mod exports;
 mod lookups;
+pub mod meshes;
 mod outputs;
 pub mod polygons;
 mod regions;
@@ -46,6 +47,8 @@ pub fn answer(case: &Case) -> Said {
             }
             IsMarker => return whole(openrdson_is_marker(case.name().as_ptr(), case.name().len()) as u64),
             ExtrudePolygon | ExtrudeBox | TotalVolume => regions::status(case, &mut outputs),
+            CellCount => openrdson_cell_count(a, b, outputs.places()[0]),
+            AxisCoordinate => openrdson_axis_coordinate(a, b, c, case.place() as usize, o1),
             Sqrt => return float(openrdson_sqrt(x)),
             Abs => return float(openrdson_abs(x)),
             CeilCapped => return whole(openrdson_ceil_capped(x)),

@@ -4,7 +4,7 @@ use crate::case::Case;
 use crate::regions::{Regions, Row};
 
 pub const REGIONS_MOST: usize = 4096;
-const MATERIAL_MOST: u32 = 768;
+pub const MATERIAL_MOST: u32 = 768;
 
 /// "Extruding: 16, 2, 1, heights last, 15 for material"
 pub fn extruded_polygon(case: &Case) -> u32 {

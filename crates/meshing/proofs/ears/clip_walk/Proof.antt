@@ -6,7 +6,9 @@ use mathlib.Core.Path.{_≡_, refl, sym, ap, _∙_}
 use lib.ListN.{length, drop, take}
 use Rattle.meshing.specs.Answers.{earAnswer}
 use Rattle.meshing.specs.Ears.{isEar}
-use Rattle.meshing.proofs.ClipLaws.{Run, run-start, run-vertex, run-below, run-at, run-cut, run-stalls, run-ends, rest-all, below-wider}
+use Rattle.meshing.proofs.ClipLaws.{Run, run-start, run-vertex, run-below, run-at, run-cut, run-stalls, run-ends}
+use Rattle.lists.proofs.Parts.{rest-lent}
+use Rattle.lists.proofs.Places.{below-wider}
 use Rattle.meshing.proofs.ears.clip_walk.Statement.{statement}
 use Rattle.meshing.proofs.ears.clip_walk.Tie as tie
 use Rattle.meshing.proofs.ears.clip_walk.Reads as reads
@@ -44,7 +46,7 @@ first-ear-requires : tie.Need-first-ear-requires Inv-loop μ-loop
 first-ear-requires c κs = let a = c .before .before .before .before .before .before .before .before .args in
     let v = c .before .before .before .loop in
     let rest = take (length (v .walk) - v .at) (drop (v .at) (v .walk)) in
-    (c .before .before .before .before .before .before .before .before .pre .0, run-below (isEar (a .xs .now) (a .ys .now)) (length (a .xs .now)) (a .walk .now) (v .walk) (v .out) (v .at) (v .inv .1) rest (rest-all (v .walk) (v .at)))
+    (c .before .before .before .before .before .before .before .before .pre .0, run-below (isEar (a .xs .now) (a .ys .now)) (length (a .xs .now)) (a .walk .now) (v .walk) (v .out) (v .at) (v .inv .1) rest (rest-lent (v .walk) (v .at)))
 
 enum-told : tie.Need-enum-told Inv-loop μ-loop
 enum-told c = search needs
@@ -59,7 +61,7 @@ returns : tie.Need-returns Inv-loop μ-loop
 returns c = let a = c .before .before .before .before .before .before .before .before .before .before .before .args in
     let v = c .before .before .before .before .before .before .loop in
     let rest = take (length (v .walk) - v .at) (drop (v .at) (v .walk)) in
-    run-stalls (isEar (a .xs .now) (a .ys .now)) (length (a .xs .now)) (a .walk .now) (v .walk) (v .out) (v .at) (v .inv .1) rest (rest-all (v .walk) (v .at)) (c .before .before .before .before .before .loop-test .taken) (sym (ap earAnswer (c .enum-told .given .1)) ∙ c .before .before .first-ear .ensures)
+    run-stalls (isEar (a .xs .now) (a .ys .now)) (length (a .xs .now)) (a .walk .now) (v .walk) (v .out) (v .at) (v .inv .1) rest (rest-lent (v .walk) (v .at)) (c .before .before .before .before .before .loop-test .taken) (sym (ap earAnswer (c .enum-told .given .1)) ∙ c .before .before .first-ear .ensures)
 
 enum-known-ear : tie.Need-enum-known-ear Inv-loop μ-loop
 enum-known-ear c = search needs
@@ -83,7 +85,7 @@ cut-ear-requires : tie.Need-cut-ear-requires Inv-loop μ-loop
 cut-ear-requires c κs = let a = c .before .before .before .before .before .before .before .before .before .before .before .before .before .before .args in
     let v = c .before .before .before .before .before .before .before .before .before .loop in
     let rest = take (length (v .walk) - v .at) (drop (v .at) (v .walk)) in
-    (run-at (isEar (a .xs .now) (a .ys .now)) (length (a .xs .now)) (a .walk .now) (v .walk) (v .out) (v .at) (v .inv .1) rest (rest-all (v .walk) (v .at)) (c .before .before .before .ear .given .0 .0) (sym (ap earAnswer (c .before .before .before .ear .given .1)) ∙ c .before .before .before .before .before .first-ear .ensures), below-wider (length (a .xs .now)) 512 rest (c .before .before .before .before .before .before .before .before .before .before .before .before .before .before .pre .1) (run-below (isEar (a .xs .now) (a .ys .now)) (length (a .xs .now)) (a .walk .now) (v .walk) (v .out) (v .at) (v .inv .1) rest (rest-all (v .walk) (v .at))), omega (arith, c .before .before .before .before .before .before .before .before .loop-test .taken, v .inv .1 .room))
+    (run-at (isEar (a .xs .now) (a .ys .now)) (length (a .xs .now)) (a .walk .now) (v .walk) (v .out) (v .at) (v .inv .1) rest (rest-lent (v .walk) (v .at)) (c .before .before .before .ear .given .0 .0) (sym (ap earAnswer (c .before .before .before .ear .given .1)) ∙ c .before .before .before .before .before .first-ear .ensures), below-wider (length (a .xs .now)) 512 rest (c .before .before .before .before .before .before .before .before .before .before .before .before .before .before .pre .1) (run-below (isEar (a .xs .now) (a .ys .now)) (length (a .xs .now)) (a .walk .now) (v .walk) (v .out) (v .at) (v .inv .1) rest (rest-lent (v .walk) (v .at))), omega (arith, c .before .before .before .before .before .before .before .before .loop-test .taken, v .inv .1 .room))
 
 add-at : tie.Need-add-at Inv-loop μ-loop
 add-at c = omega (arith, c .before .before .before .before .before .before .before .before .before .before .before .before .before .before .loop .inv .0, c .before .before .before .before .before .before .before .before .before .before .before .before .before .before .loop .inv .1 .place, c .before .before .before .before .before .before .before .before .before .before .before .before .before .before .loop .inv .1 .same, c .before .before .before .before .before .before .before .before .before .before .before .before .before .before .loop .inv .1 .room, c .before .before .before .before .before .before .before .before .before .before .before .before .before .before .before .before .before .before .before .good .1 .1 .0 .1, c .before .before .before .before .before .before .before .before .before .before .before .before .before .before .before .before .before .before .before .good .1 .1 .1 .0 .1)
@@ -97,7 +99,7 @@ loop-again c = let a = c .before .before .before .before .before .before .before
     let rest = take (length (v .walk) - v .at) (drop (v .at) (v .walk)) in
     let k = c .before .before .before .before .cut-ear in (
       k .kept .1 .1 .0 ∙ v .inv .0,
-      run-cut (isEar (a .xs .now) (a .ys .now)) (length (a .xs .now)) (a .walk .now) (v .walk) (v .out) (v .at) (v .inv .1) rest (rest-all (v .walk) (v .at)) (c .before .before .before .before .before .before .before .before .ear .given .0 .0) (k .last .0) (k .last .1 .1 .0) (c .before .before .before .before .before .before .before .before .before .before .before .before .before .loop-test .taken) (sym (ap earAnswer (c .before .before .before .before .before .before .before .before .ear .given .1)) ∙ c .before .before .before .before .before .before .before .before .before .before .first-ear .ensures) (k .ensures .0) (k .kept .0) (k .ensures .1),
+      run-cut (isEar (a .xs .now) (a .ys .now)) (length (a .xs .now)) (a .walk .now) (v .walk) (v .out) (v .at) (v .inv .1) rest (rest-lent (v .walk) (v .at)) (c .before .before .before .before .before .before .before .before .ear .given .0 .0) (k .last .0) (k .last .1 .1 .0) (c .before .before .before .before .before .before .before .before .before .before .before .before .before .loop-test .taken) (sym (ap earAnswer (c .before .before .before .before .before .before .before .before .ear .given .1)) ∙ c .before .before .before .before .before .before .before .before .before .before .first-ear .ensures) (k .ensures .0) (k .kept .0) (k .ensures .1),
     )
 
 mul-put-triangle : tie.Need-mul-put-triangle Inv-loop μ-loop

@@ -2,7 +2,7 @@
 use native.Mathlib.Omega.{arith}
 use borrow.Author.Needs.{needs}
 use lib.ListN.{length-set}
-use Rattle.meshing.proofs.ClipLaws.{put-three}
+use Rattle.lists.proofs.Fills.{put-three}
 use Rattle.meshing.proofs.ears.put_triangle.Statement.{statement}
 use Rattle.meshing.proofs.ears.put_triangle.Tie as tie
 use Rattle.meshing.proofs.ears.put_triangle.Reads as reads

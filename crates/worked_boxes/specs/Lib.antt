@@ -1,0 +1,2 @@
+-- What the checks ask of the counts.
+pub mod Expected

@@ -1,0 +1,106 @@
+//! `mesh_box`, and what it left in the lists that it was lent.
+use crate::exports::Bbox;
+use cases::meshes::{Fault, Given, Job};
+
+type Out = *mut f64;
+type Numbers = *mut u32;
+
+extern "C" {
+    pub fn openrdson_mesh_box(
+        bounds: Bbox, z_bottom: f64, z_top: f64, material: u32, region: u32, lateral_cell: f64, z_cell: f64,
+        xs: Out, n1: usize, ys: Out, n2: usize, zs: Out, n3: usize,
+        kinds: *mut u8, n4: usize, places: Numbers, n5: usize, regions: Numbers, n6: usize,
+        nodes: *mut usize, elements: *mut usize,
+    ) -> u32;
+}
+
+/// Entries past the end of each list, which the call is not lent.
+const PAST: usize = 2;
+
+/// What is in the entry of this place before the call, and past the end of each list.
+fn word(place: usize) -> u64 {
+    0xa5a5_a5a5_a5a5_a5a5 ^ (place as u64).wrapping_mul(0x0100_0001_0001_0101)
+}
+
+fn list<T>(length: usize, entry: impl Fn(u64) -> T) -> Vec<T> {
+    (0..length + PAST).map(|place| entry(word(place))).collect()
+}
+
+/// The status, and what was lent, after the call.
+pub struct Left {
+    pub status: u32,
+    pub counts: [usize; 2],
+    pub coordinates: [Vec<f64>; 3],
+    pub kinds: Vec<u8>,
+    pub places: Vec<u32>,
+    pub regions: Vec<u32>,
+}
+
+impl Left {
+    /// Before the call.
+    pub fn before(job: &Job) -> Left {
+        let [xs, ys, zs, kinds, places, regions] = job.lengths;
+        Left {
+            status: 0,
+            counts: job.counts,
+            coordinates: [xs, ys, zs].map(|length| list(length, f64::from_bits)),
+            kinds: list(kinds, |word| word as u8),
+            places: list(places, |word| word as u32),
+            regions: list(regions, |word| word as u32),
+        }
+    }
+
+    /// What is expected: a refusal leaves everything, an accepted call writes after the counts that it was given and leaves the rest.
+    pub fn expected(job: &Job, answer: &Result<Given, Fault>) -> Left {
+        let mut after = Left::before(job);
+        let given = match answer {
+            Ok(given) => given,
+            Err(fault) => {
+                after.status = fault.status();
+                return after;
+            }
+        };
+        let [nodes, elements] = job.counts;
+        for (i, node) in given.nodes.iter().enumerate() {
+            after.coordinates.iter_mut().zip(node).for_each(|(list, x)| list[nodes + i] = *x);
+        }
+        let more = given.kinds.len();
+        after.kinds[elements..elements + more].copy_from_slice(&given.kinds);
+        after.places[8 * elements..8 * (elements + more)].copy_from_slice(&given.places);
+        after.regions[elements..elements + more].fill(job.region);
+        after.counts = [nodes + given.nodes.len(), elements + more];
+        after
+    }
+
+    /// Whether every entry is the same, floats by their bits.
+    pub fn same(&self, other: &Left) -> bool {
+        let same_bits = |a: &[f64], b: &[f64]| a.iter().map(|x| x.to_bits()).eq(b.iter().map(|x| x.to_bits()));
+        (self.status, self.counts) == (other.status, other.counts)
+            && self.coordinates.iter().zip(&other.coordinates).all(|(a, b)| same_bits(a, b))
+            && self.kinds == other.kinds
+            && self.places == other.places
+            && self.regions == other.regions
+    }
+}
+
+pub fn answer(job: &Job) -> Left {
+    let mut after = Left::before(job);
+    call(job, &mut after);
+    after
+}
+
+/// The call on these lists, with these counts.
+pub fn call(job: &Job, after: &mut Left) {
+    let [min_x, min_y, max_x, max_y, z_bottom, z_top] = job.bounds;
+    let [lateral_cell, z_cell] = job.cells;
+    let [x, y, z] = after.coordinates.each_mut().map(|list| (list.as_mut_ptr(), list.len() - PAST));
+    let [p, r] = [&mut after.places, &mut after.regions].map(|list| (list.as_mut_ptr(), list.len() - PAST));
+    let [nodes, elements] = &mut after.counts;
+    after.status = unsafe {
+        openrdson_mesh_box(
+            Bbox { min_x, min_y, max_x, max_y }, z_bottom, z_top, job.material, job.region, lateral_cell, z_cell,
+            x.0, x.1, y.0, y.1, z.0, z.1, after.kinds.as_mut_ptr(), after.kinds.len() - PAST, p.0, p.1, r.0, r.1,
+            nodes, elements,
+        )
+    };
+}
