@@ -1,5 +1,5 @@
 -- Laws of operations rounded once, on numbers of any sign. The size of a difference grows with the distance; a difference grows with its first number and falls with its second;
--- a product grows with its factor; differences, sums and products of numbers in range are in range. Assumes nothing.
+-- a product grows with its factor; a difference has the sign of the order; differences, sums and products of numbers in range are in range. Assumes nothing.
 use mathlib.Core.Path.{_≡_, refl, sym, ap, _∙_, subst}
 use mathlib.Core.Logic.{inl, inr}
 use Prim.Native.Nat.{ℕ, zero, suc, _+_, _-_, _*_, _^_, _≤_, _<_}
@@ -490,6 +490,13 @@ difference-minus (fin s m e) nan p q h = absurd q
 difference-minus (fin s m e) (inf t) p q h = absurd q
 difference-minus (fin s m e) (fin t n d) p q h =
     sub-minus-at binary64 s t (m * up e) (n * up d) (down e) (down d) (mul-pos (down-pos e) (down-pos d)) (le→cross (fin s m e) (fin t n d) tt tt h)
+
+-- the difference of numbers in range has the sign of their order
+pub difference-above : (k : ℕ) (x y : Float) → atMost k x ≡ true → atMost k y ≡ true → le y x ≡ true → le (fin false 0 (pos 0)) (x ⊖ y) ≡ true
+difference-above k x y X Y h = is-true (le nought (x ⊖ y)) (difference-plus x y (finite-of k x X) (finite-of k y Y) (holds (le y x) h))
+
+pub difference-below : (k : ℕ) (x y : Float) → atMost k x ≡ true → atMost k y ≡ true → le x y ≡ true → le (x ⊖ y) (fin false 0 (pos 0)) ≡ true
+difference-below k x y X Y h = is-true (le (x ⊖ y) nought) (difference-minus x y (finite-of k x X) (finite-of k y Y) (holds (le x y) h))
 
 vanished : (a d : ℕ) → a ≡ 0 → a * d + a * d ≤ 0 * d + 0 * d
 vanished a d z = subst (λ (x : ℕ). x * d + x * d ≤ 0 * d + 0 * d) (sym z) (le-refl (0 * d + 0 * d))

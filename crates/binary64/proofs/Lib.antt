@@ -4,6 +4,7 @@ pub mod Sizes
 pub mod Order
 pub mod Signs
 pub mod Differences
+pub mod KeySorts
 pub mod Ceilings
 pub mod Halves
 pub mod WholeRoots

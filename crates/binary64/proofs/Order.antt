@@ -6,7 +6,7 @@ use native.Mathlib.Omega.{arith}
 use mathlib.Core.Bool.{Bool, true, false, not, _&&_, _||_}
 use lib.Dec.{T, leb, ltb, eqb, ltb→lt, lt→ltb, leb→le, le→leb, eqb→eq, eqb-refl, not-T, nleb→lt}
 use lib.IntN.{pos}
-use lib.Ieee.{Float, neg, nan, inf, fin, up, down, lt, le, below, level}
+use lib.Ieee.{Float, neg, nan, inf, fin, up, down, lt, eq, le, below, level}
 use lib.Ieee.Fits.{down-pos}
 use borrow.Author.Tests.{not-true, leb-false, le-leb}
 use Rattle.binary64.proofs.Values.{same-test}
@@ -261,6 +261,33 @@ not-lt-le x y p q h = go (le x y) (le y x) refl refl (sym (lt-is x y) ∙ h)
 pub not-le-lt : (x y : Float) → le x x ≡ true → le y y ≡ true → le x y ≡ false → lt y x ≡ true
 not-le-lt x y p q h = strict y x (le-total x y p q h) h
 
+-- of two equal values each is at most the other
+pub eq-le : (x y : Float) → eq x y ≡ true → le x y ≡ true
+unfolding le
+eq-le x y h = go (lt x y) (eq x y) h
+  where
+    go : (p q : Bool) → q ≡ true → (p || q) ≡ true
+    go true q e = refl
+    go false q e = e
+
+pub eq-ge : (x y : Float) → eq x y ≡ true → le y x ≡ true
+unfolding le
+eq-ge nan y h = never h
+eq-ge (inf s) nan h = never h
+eq-ge (inf true) (inf true) h = refl
+eq-ge (inf true) (inf false) h = never h
+eq-ge (inf false) (inf true) h = never h
+eq-ge (inf false) (inf false) h = refl
+eq-ge (inf s) (fin t n d) h = never h
+eq-ge (fin s m e) nan h = never h
+eq-ge (fin s m e) (inf t) h = never h
+eq-ge (fin s m e) (fin t n d) h = go (m * up e * down d) (n * up d * down e) h
+  where
+    go : (a b : ℕ) → level s a t b ≡ true → (below t b s a || level t b s a) ≡ true
+    go a b h =
+        le-finite t s b a
+        ∙ le-leb (side t b s a) (side s a t b) (omega (arith, eqb→eq (side s a t b) (side t b s a) (holds (eqb (side s a t b) (side t b s a)) (sym (level-is s t a b) ∙ h))))
+
 -- ---- at most 2 ^ k in size: from -2 ^ k to 2 ^ k
 atMost-sides : (k : ℕ) (x : Float) → atMost k x ≡ (le x (fin false 1 (pos k)) && le (fin true 1 (pos k)) x)
 unfolding neg
@@ -271,6 +298,13 @@ atMost-low k x h = second (le x (fin false 1 (pos k))) (le (fin true 1 (pos k)) 
 
 pub atMost-high : (k : ℕ) (x : Float) → atMost k x ≡ true → le x (fin false 1 (pos k)) ≡ true
 atMost-high k x h = first (le x (fin false 1 (pos k))) (le (fin true 1 (pos k)) x) (sym (atMost-sides k x) ∙ h)
+
+-- so it is above minus infinity
+pub atMost-above : (k : ℕ) (x : Float) → atMost k x ≡ true → le x (inf true) ≡ false
+unfolding atMost le
+atMost-above k nan h = never h
+atMost-above k (inf s) h = never h
+atMost-above k (fin s m e) h = refl
 
 pub atMost-between : (k : ℕ) (lo x hi : Float) → le (fin true 1 (pos k)) lo ≡ true → le lo x ≡ true → le x hi ≡ true → le hi (fin false 1 (pos k)) ≡ true → atMost k x ≡ true
 atMost-between k lo x hi a b c d =

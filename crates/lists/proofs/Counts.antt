@@ -2,12 +2,12 @@
 use mathlib.Core.Path.{_≡_, refl, ap}
 use mathlib.Core.Bool.{Bool, true, false, _&&_}
 use mathlib.Core.List.{List, [], _∷_, _++_, reverse, reverseAux}
-use Prim.Native.Nat.{ℕ, zero, suc, _+_, _≤_}
+use Prim.Native.Nat.{ℕ, zero, suc, _+_, _≤_, _<_}
 use native.Mathlib.Omega.{arith}
 use lib.Dec.{eqb}
-use borrow.Author.Tests.{eqb-true}
+use borrow.Author.Tests.{eqb-true, eq-eqb}
 use Rattle.lists.specs.Counts.{bit, total, occurs}
-use Rattle.lists.specs.Lists.{runs, elems}
+use Rattle.lists.specs.Lists.{runs, elems, Below}
 
 module _ {A : Type 0} where
   module _ (f : A → ℕ) where
@@ -26,6 +26,11 @@ module _ {A : Type 0} where
   pub total-same : (f g : A → ℕ) → ((x : A) → f x ≡ g x) → (l : List A) → total f l ≡ total g l
   total-same f g each [] = refl
   total-same f g each (x ∷ l) = omega (arith, each x, total-same f g each l)
+
+  -- and weights that add up, to sums that do
+  pub total-sum : (f g h : A → ℕ) → ((x : A) → f x + g x ≡ h x) → (l : List A) → total f l + total g l ≡ total h l
+  total-sum f g h each [] = refl
+  total-sum f g h each (x ∷ l) = omega (arith, each x, total-sum f g h each l)
 
 -- ---- tests as numbers
 
@@ -72,3 +77,9 @@ occurs-once u (suc n) = at (eqb n u) refl (occurs-once u n)
     at : (b : Bool) → eqb n u ≡ b → occurs u (elems n (λ i. i)) ≤ 1 → occurs u (elems (suc n) (λ i. i)) ≤ 1
     at true e h = let is : n ≡ u = eqb-true n u e in omega (arith, occurs-more u n, occurs-past u n (omega arith), ap bit e)
     at false e h = omega (arith, occurs-more u n, ap bit e)
+
+-- ---- a list whose entries are all below n, from how often they occur
+
+pub below-occurring : (n : ℕ) (l : List ℕ) → ((u : ℕ) → 0 < occurs u l → u < n) → Below n l
+below-occurring n [] each = tt
+below-occurring n (k ∷ l) each = (each k (omega (arith, ap bit (eq-eqb k k refl))), below-occurring n l (λ u h. each u (omega arith)))

@@ -2,9 +2,12 @@
 pub mod Answers
 pub mod Fills
 pub mod Copies
+pub mod Joined
 pub mod Folds
 pub mod Scans
 pub mod Searches
 pub mod Places
 pub mod Parts
 pub mod Counts
+pub mod Passing
+pub mod Sorts

@@ -1,5 +1,5 @@
 -- Lists of places, the entries gathered at them, and neighbours on a ring. Assumes nothing.
-use mathlib.Core.Path.{_≡_, refl, ap, _∙_}
+use mathlib.Core.Path.{_≡_, refl, sym, ap, _∙_}
 use mathlib.Core.Bool.{Bool, true, false, cond}
 use mathlib.Core.List.{List, [], _∷_, _++_, map-append}
 use Prim.Native.Nat.{ℕ, zero, suc, _+_, _-_, _≤_, _<_}
@@ -10,6 +10,8 @@ use lib.ListN.{length, getD, take, drop, length-map}
 use lib.Seq.{take-suc, take-length}
 use borrow.Author.Tests.{ltb-true, lt-ltb, le-ltb}
 use Rattle.lists.specs.Lists.{runs, elems, Below, gather, nextOf, prevOf}
+use Rattle.lists.proofs.Copies.{copy-elems}
+use Rattle.lists.proofs.Fills.{elems-length, elems-same, elems-at}
 
 pub gather-length : {A : Type 0} (other : A) (l : List A) (ks : List ℕ) → length (gather other l ks) ≡ length ks
 gather-length other l ks = length-map ks (λ k. getD l k other)
@@ -22,6 +24,15 @@ gathers other l ks (suc n) h = rw (take-suc ks n 0 h, map-append, gathers other 
 
 pub gather-elems : {A : Type 0} (other : A) (l : List A) (ks : List ℕ) → elems (length ks) (λ i. getD l (getD ks i 0) other) ≡ gather other l ks
 gather-elems other l ks = gathers other l ks (length ks) (le-refl (length ks)) ∙ ap (gather other l) (take-length ks)
+
+-- the entries at all places are the list
+pub gather-all : {A : Type 0} (other : A) (l : List A) (n : ℕ) → n ≡ length l → gather other l (elems n (λ i. i)) ≡ l
+gather-all {A} other l n h =
+    sym (gather-elems other l (elems n (λ i. i)))
+    ∙ ap (λ (k : ℕ). elems k (λ i. getD l (getD (elems n (λ i. i)) i 0) other)) (elems-length (λ i. i) n)
+    ∙ elems-same (λ i. getD l (getD (elems n (λ i. i)) i 0) other) (λ i. getD l i other) n (λ i b. ap (λ (k : ℕ). getD l k other) (elems-at (λ i. i) 0 n i b))
+    ∙ ap (λ (k : ℕ). elems k (λ i. getD l i other)) h
+    ∙ copy-elems other l
 
 module _ (n : ℕ) where
   pub below-at : (ks : List ℕ) (i : ℕ) → Below n ks → i < length ks → getD ks i 0 < n

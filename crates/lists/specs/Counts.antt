@@ -1,5 +1,6 @@
 -- Sums and counts over a list.
 use Prim.Native.Nat.{ℕ, _+_}
+use mathlib.Core.Path.{_≡_}
 use mathlib.Core.Bool.{Bool, true, false}
 use mathlib.Core.List.{List, [], _∷_}
 use lib.Dec.{eqb}
@@ -18,6 +19,10 @@ module _ {A : Type 0} where
   -- how many entries pass a test
   abbrev pub tally : (A → Bool) → List A → ℕ
   tally test l = total (λ x. bit (test x)) l
+
+-- the same entries, in any order: as many of them pass each test
+abbrev pub SameEntries : {A : Type 0} → List A → List A → Type 0
+SameEntries {A} a b = (test : A → Bool) → tally test a ≡ tally test b
 
 -- how often u stands in a list
 abbrev pub occurs : ℕ → List ℕ → ℕ

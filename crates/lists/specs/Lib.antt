@@ -2,3 +2,4 @@
 pub mod Answer
 pub mod Lists
 pub mod Counts
+pub mod Sorts

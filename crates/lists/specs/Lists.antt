@@ -31,6 +31,21 @@ module _ {A : Type 0} where
   abbrev pub gather : A → List A → List ℕ → List A
   gather other l ks = map (λ k. getD l k other) ks
 
+  -- the entries that pass a test, in their order
+  abbrev pub passing : (A → Bool) → List A → List A
+  passing test [] = []
+  passing test (a ∷ l) = let rest = passing test l in cond (test a) (a ∷ rest) rest
+
+  -- every entry passes a test
+  abbrev pub allOf : (A → Bool) → List A → Bool
+  allOf test [] = true
+  allOf test (a ∷ l) = test a && allOf test l
+
+  -- f of each entry, one run after the other
+  abbrev pub joined : {B : Type 0} → (A → List B) → List A → List B
+  joined f [] = []
+  joined f (a ∷ l) = f a ++ joined f l
+
 -- every place of the list is below n
 abbrev pub Below : ℕ → List ℕ → Type 0
 Below n [] = Unit

@@ -120,6 +120,12 @@ module _ (nodes : ℕ) (places : List ℕ) where
   unfolding firstBelow
   place-below n e i l = ltb-true _ _ (all-at belowAt n e i l)
 
+  -- and below any larger number
+  pub first-wider : (n : ℕ) {more : ℕ} → nodes ≤ more → firstBelow n nodes places ≡ true → firstBelow n more places ≡ true
+  unfolding firstBelow
+  first-wider n {more} h e =
+      all-from (λ i. ltb (getD places i 0) more) n (λ i l. lt-ltb (getD places i 0) more (omega (arith, place-below n e i l)))
+
 -- there is such a kind where some place is used, and only there
 known-used : (o : Option ElementType) → (usedPlaces o ≡ 0 → ⊥) → known o ≡ true
 known-used (some t) h = refl
@@ -155,6 +161,9 @@ element-valid n m e h =
     let two = both (kindOk m e) (unusedOk m e) (last .0) in
     record { kind = two .0; rest = two .1; below = last .1 }
 
+pub valid-element : (n : ℕ) (m : Mesh) (e : ℕ) → Valid n m e → elementOk n m e ≡ true
+valid-element n m e v = rw (v .kind, v .rest, v .below)
+
 -- what it takes for a mesh to be well formed
 pub record WellFormed (c : Counts) (m : Mesh) : Type 0 where
   pub lists : parallel m ≡ true
@@ -171,6 +180,12 @@ well-formed c m h =
       counts = two .1;
       elements = λ e l. element-valid (c .nodes) m e (all-at (elementOk (c .nodes) m) (c .elements) (last .1) e l);
     }
+
+pub formed-well : (c : Counts) (m : Mesh) → WellFormed c m → wellFormed c m ≡ true
+unfolding wellFormed
+formed-well c m w =
+    rw (w .lists, w .counts)
+    (all-from (elementOk (c .nodes) m) (c .elements) (λ e l. valid-element (c .nodes) m e (w .elements e l)))
 
 -- the places that an element of a well-formed mesh uses are below the node count
 pub used-below : (c : Counts) (m : Mesh) → wellFormed c m ≡ true → (e : ℕ) → e < c .elements → (i : ℕ) → i < usedOf m e → getD (placesOf m e) i 0 < c .nodes

@@ -1,16 +1,19 @@
--- What the lengths of a ring, and of point lists with a part, tell once they have passed. Assumes nothing.
+-- What a ring, and the lengths of point lists with a part, tell once they have passed. Assumes nothing.
 use mathlib.Core.Path.{_≡_}
 use Prim.Native.Nat.{ℕ, _+_, _≤_}
 use mathlib.Core.List.{List}
+use native.Mathlib.Omega.{arith}
 use lib.Dec.{eqb, leb}
 use lib.ListN.{length}
-use mathlib.Core.Bool.{_&&_}
-use lib.Ieee.{Float, binary64, ofBits, le}
+use mathlib.Core.Bool.{true, _&&_}
+use lib.Ieee.{Float, nan, binary64, ofBits, le}
 use borrow.Author.Tests.{eqb-true, leb-true}
 use Rattle.lists.specs.Answer.{given, unless}
 use Rattle.lists.proofs.Answers.{passed, passed-then}
-use Rattle.lists.proofs.Scans.{all-same}
-use Rattle.binary64.specs.Numbers.{at, abs}
+use Rattle.lists.specs.Lists.{allOf}
+use Rattle.lists.proofs.Passing.{allOf-from}
+use Rattle.lists.proofs.Scans.{both, all-at, all-same}
+use Rattle.binary64.specs.Numbers.{at, abs, atMost}
 use Rattle.binary64.proofs.Sizes.{coordinate-is}
 use Rattle.openrdson_core.specs.Apart.{pointsWithin}
 use Rattle.openrdson_core.specs.Points.{pointAt, pointIn, pointsIn, ringSize, ringFault, ofRing}
@@ -30,6 +33,22 @@ sized m n e =
 pub fine-ring : (xs ys : List Float) → ringFault xs ys ≡ given tt → Sized (length xs) (length ys)
 unfolding ringFault
 fine-ring xs ys e = sized (length xs) (length ys) (passed-then (ringSize (length xs) (length ys)) (λ _. unless (pointsIn xs ys) 1 (given tt)) e .1)
+
+pub fine-points : (xs ys : List Float) → ringFault xs ys ≡ given tt → pointsIn xs ys ≡ true
+unfolding ringFault
+fine-points xs ys e =
+    passed (pointsIn xs ys) 1 (given tt) (passed-then (ringSize (length xs) (length ys)) (λ _. unless (pointsIn xs ys) 1 (given tt)) e .2) .0
+
+-- its heights
+pub fine-heights : (xs ys : List Float) → ringFault xs ys ≡ given tt → allOf (atMost 20) ys ≡ true
+fine-heights xs ys e =
+    allOf-from (atMost 20) ys nan
+    (λ i h.
+    both
+    (atMost 20 (at xs i))
+    (atMost 20 (at ys i))
+    (all-at (λ k. pointIn (pointAt xs ys k)) (length xs) (fine-points xs ys e) i (omega (arith, fine-ring xs ys e .even)))
+    .1)
 
 pub of-ring : {A : Type 0} (xs ys : List Float) (a : A) {b : A} → ofRing xs ys a ≡ given b → Sized (length xs) (length ys)
 of-ring xs ys a e = fine-ring xs ys (passed-then (ringFault xs ys) (λ _. given a) e .1)
