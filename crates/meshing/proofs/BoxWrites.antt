@@ -20,7 +20,7 @@ use Rattle.meshing.specs.declared.boxes.Meshed.the-variants.{Done}
 use Rattle.meshing.proofs.GridLaws.{grid-length}
 
 -- six equal lists are equal meshes
-same-mesh : {a a′ b b′ c c′ : List Float} {d d′ e e′ f f′ : List ℕ} → a ≡ a′ → b ≡ b′ → c ≡ c′ → d ≡ d′ → e ≡ e′ → f ≡ f′ → theMesh a b c d e f ≡ theMesh a′ b′ c′ d′ e′ f′
+pub same-mesh : {a a′ b b′ c c′ : List Float} {d d′ e e′ f f′ : List ℕ} → a ≡ a′ → b ≡ b′ → c ≡ c′ → d ≡ d′ → e ≡ e′ → f ≡ f′ → theMesh a b c d e f ≡ theMesh a′ b′ c′ d′ e′ f′
 same-mesh p q r s t u = cc
 
 -- what is added depends on the answer alone

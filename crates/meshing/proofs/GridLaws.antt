@@ -1,9 +1,11 @@
 -- A box's nodes and hexes: how long the lists are, that the hexes name nodes of the box, and what the loops that write them work out.
---     grid-length, hexes-length, hexes-below     the theorems
+--     grid-length, hexes-length                  the theorems
+--     hexes-below, hexes-from
 --     axis-inner, axis-last                      a coordinate, from the step of its axis
 --     hex-is, hex-row, hex-plane                 a hex from its first node, a row from its first hex, a plane from its first row
 -- Assumes nothing.
 use mathlib.Core.Path.{_≡_, refl, sym, ap, _∙_}
+use mathlib.Core.Bool.{Bool, true}
 use mathlib.Core.List.{List, [], _∷_, _++_}
 use Prim.Native.Nat.{ℕ, zero, suc, _+_, _*_, _≤_, _<_}
 use native.Mathlib.Nat.{mul-comm, mul-assoc, mul-add, mul-one, mul-zero, mul-le-mul}
@@ -11,11 +13,13 @@ use native.Mathlib.Omega.{arith}
 use mir.Val.{Fits}
 use mir.Syntax.{w64}
 use mir.Facts.{fits-le, fits-lit}
+use lib.Dec.{leb}
 use lib.ListN.{length}
 use lib.Ieee.{Float}
-use borrow.Author.Tests.{eq-eqb, ne-eqb}
-use Rattle.lists.specs.Lists.{runs, elems, Below}
+use borrow.Author.Tests.{eq-eqb, ne-eqb, le-leb}
+use Rattle.lists.specs.Lists.{runs, elems, allOf, Below}
 use Rattle.lists.proofs.Fills.{runs-length, elems-length, run-room}
+use Rattle.lists.proofs.Passing.{allOf-runs}
 use Rattle.binary64.specs.Numbers.{_⊕_, _⊖_, _⊗_, _⊘_}
 use Rattle.meshing.specs.Cells.{real, axisAt}
 use Rattle.meshing.specs.Grid.{plane, grid, gridNodes, gridCells, nodeAt, hexAt, hexPlaces}
@@ -149,6 +153,22 @@ hexes-below base nx ny nz =
     below-runs n nz (λ k. runs ny (λ j. runs nx (λ i. hexAt base nx ny i j k))) (λ k hk.
     below-runs n ny (λ j. runs nx (λ i. hexAt base nx ny i j k)) (λ j hj.
     below-runs n nx (λ i. hexAt base nx ny i j k) (λ i hi. hex-below base nx ny nz i j k hi hj hk)))
+
+-- and of none before it
+from-base : (base t : ℕ) → leb base (base + t) ≡ true
+from-base base t = le-leb base (base + t) (omega arith)
+
+hex-from : (base nx ny i j k : ℕ) → allOf (λ n. leb base n) (hexAt base nx ny i j k) ≡ true
+unfolding hexAt
+hex-from base nx ny i j k = simp from-base
+
+pub hexes-from : (base nx ny nz : ℕ) → allOf (λ n. leb base n) (hexPlaces base nx ny nz) ≡ true
+unfolding hexPlaces
+hexes-from base nx ny nz =
+    let from : ℕ → Bool = λ n. leb base n in
+    allOf-runs from (λ k. runs ny (λ j. runs nx (λ i. hexAt base nx ny i j k))) nz (λ k hk.
+    allOf-runs from (λ j. runs nx (λ i. hexAt base nx ny i j k)) ny (λ j hj.
+    allOf-runs from (λ i. hexAt base nx ny i j k) nx (λ i hi. hex-from base nx ny i j k)))
 
 -- ---- what the sizes fit
 

@@ -17,3 +17,11 @@ pub mod CellLaws
 pub mod BoxLaws
 pub mod GridLaws
 pub mod BoxWrites
+pub mod QuadLaws
+pub mod ScanlineLaws
+pub mod CrossingLaws
+pub mod LevelLaws
+pub mod Even
+pub mod WellFormed
+pub mod RectLaws
+pub mod PrismLaws

@@ -14,8 +14,17 @@ use Rattle.openrdson_core.specs.Mesh.{parallelLengths, withinLengths, fits}
 use Rattle.meshing.specs.Cells.{cellsFor, cellsOf, cellCount, axisAt}
 use Rattle.meshing.specs.Grid.{plane, grid, hexAt, hexPlaces}
 use Rattle.meshing.specs.Boxes.{boxPart, boxFits, boxOf, meshBox}
+use Rattle.lists.specs.Sorts.{slot, insertBy, sortOnto}
+use mathlib.Core.Bool.{xor}
+use Rattle.meshing.specs.Added.{fitPart}
+use Rattle.meshing.specs.Rectilinear.{largestSize, isRectilinear}
+use Rattle.meshing.specs.Levels.{apartFrom, apart, levels}
+use Rattle.meshing.specs.Crossings.{spans, lineAt, edgeAt, crossings}
+use Rattle.meshing.specs.Quads.{quadArea, isFlat, quadIn, quadOf, quadsBetween, bandQuads, quadsOf}
+use Rattle.meshing.specs.Scanline.{evenBand, bandIn, scanlineOf, quadsPart}
+use Rattle.meshing.specs.Prisms.{trianglesPart, ringPart, prismPart, meshPrism}
 use Rattle.meshing.specs.Paper.{AllHold, shapes}
 
 pub paper : AllHold shapes
-unfolding meshBox boxOf boxFits boxPart hexPlaces hexAt grid plane axisAt parallelLengths withinLengths fits cellCount cellsOf cellsFor ceilCapped trianglesOf isEarOf isClear blocks inTriangle first allBelow anyBelow runs elems signedArea shoelace foldBelow kept dropLast keep ringFault fillsBounds fillsCorners onSomeCorner onCorner boundsOf atMost abs add sub mul div lt eq le round ofBits ofInt
-paper = (refl, (refl, (refl, (refl, (refl, (refl, (refl, (refl, (refl, (refl, ((refl, refl), (refl, (refl, (refl, (refl, tt)))))))))))))))
+unfolding meshPrism prismPart ringPart trianglesPart fitPart scanlineOf quadsPart evenBand bandIn quadsOf bandQuads quadsBetween quadOf quadIn isFlat quadArea crossings edgeAt lineAt spans xor levels apart apartFrom sortOnto insertBy slot isRectilinear largestSize meshBox boxOf boxFits boxPart hexPlaces hexAt grid plane axisAt parallelLengths withinLengths fits cellCount cellsOf cellsFor ceilCapped trianglesOf isEarOf isClear blocks inTriangle first allBelow anyBelow runs elems signedArea shoelace foldBelow kept dropLast keep ringFault fillsBounds fillsCorners onSomeCorner onCorner boundsOf atMost abs add sub mul div lt eq le round ofBits ofInt
+paper = (refl, (refl, (refl, (refl, (refl, (refl, (refl, (refl, (refl, (refl, (refl, (refl, ((refl, refl), (refl, (refl, (refl, (refl, (refl, tt))))))))))))))))))

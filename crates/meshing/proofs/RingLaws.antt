@@ -11,7 +11,8 @@ use lib.Seq.{length-take-le, take-take, take-suc-set, getD-append-add}
 use lib.Ieee.{Float}
 use borrow.Author.Tests.{lt-ltb, le-ltb, le-leb, lt-leb, eq-eqb, ne-eqb}
 use Rattle.lists.specs.Answer.{refused, given}
-use Rattle.lists.specs.Lists.{foldBelow, put, Below}
+use Rattle.lists.specs.Lists.{foldBelow, put, runs, elems, Below}
+use Rattle.lists.proofs.Fills.{elems-length, elems-suc, elems-at}
 use Rattle.lists.proofs.Places.{below-more, below-take}
 use Rattle.openrdson_core.specs.Points.{pointAt, ringFault}
 use Rattle.openrdson_core.specs.declared.points.Point.{Point}
@@ -65,6 +66,94 @@ module _ (xs ys : List Float) where
   unfolding foldBelow
   kept-of-below n zero h = tt
   kept-of-below n (suc i) h = keep-below n (keptOf xs ys i) i (kept-of-below n i (omega arith)) (omega arith)
+
+  -- ---- the places kept
+
+  keep-most : (ks : List ℕ) (i : ℕ) → length (keep xs ys ks i) ≤ length ks + 1
+  unfolding keep
+  keep-most ks i = at (ltb 0 (length ks) && isClose (pointAt xs ys (lastOf ks)) (pointAt xs ys i))
+    where
+      at : (c : Bool) → length (cond c ks (ks ++ i ∷ [])) ≤ length ks + 1
+      at true = omega arith
+      at false = omega (arith, length-append ks (i ∷ []))
+
+  kept-of-most : (i : ℕ) → length (keptOf xs ys i) ≤ i
+  unfolding foldBelow
+  kept-of-most zero = omega arith
+  kept-of-most (suc i) = omega (arith, keep-most (keptOf xs ys i) i, kept-of-most i)
+
+  pub kept-below : Below (length xs) (kept xs ys)
+  unfolding kept dropLast
+  kept-below = at (ltb 1 (length ks) && isClose (pointAt xs ys (getD ks 0 0)) (pointAt xs ys (lastOf ks)))
+    where
+      ks : List ℕ
+      ks = keptOf xs ys (length xs)
+
+      all : Below (length xs) ks
+      all = kept-of-below (length xs) (length xs) (omega arith)
+
+      at : (c : Bool) → Below (length xs) (cond c (take (length ks - 1) ks) ks)
+      at true = below-take (length xs) ks (length ks - 1) all
+      at false = all
+
+  pub kept-most : length (kept xs ys) ≤ length xs
+  unfolding kept dropLast
+  kept-most = at (ltb 1 (length ks) && isClose (pointAt xs ys (getD ks 0 0)) (pointAt xs ys (lastOf ks)))
+    where
+      ks : List ℕ
+      ks = keptOf xs ys (length xs)
+
+      at : (c : Bool) → length (cond c (take (length ks - 1) ks) ks) ≤ length xs
+      at true = omega (arith, length-take-le (length ks - 1) ks (omega arith), kept-of-most (length xs))
+      at false = kept-of-most (length xs)
+
+  -- ---- a clean ring: all are kept. The invariant of the loop that tests it is `keptOf xs ys i ≡ elems i (λ k. k)`.
+
+  last-place : (i : ℕ) → 0 < i → lastOf (elems i (λ k. k)) ≡ i - 1
+  last-place i h = rw (elems-length (λ k. k) i) (elems-at (λ k. k) 0 i (i - 1) (omega arith))
+
+  pub clean-start : keptOf xs ys 1 ≡ elems 1 (λ k. k)
+  unfolding foldBelow keep runs elems
+  clean-start = refl
+
+  pub clean-more : (i : ℕ) {a b : Point} {close : Bool} → 0 < i → keptOf xs ys i ≡ elems i (λ k. k) → a ≡ pointAt xs ys (i - 1) → b ≡ pointAt xs ys i → close ≡ isClose a b → close ≡ false
+      → keptOf xs ys (i + 1) ≡ elems (i + 1) (λ k. k)
+  clean-more i {a} {b} h e p q t f =
+      let far : isClose (pointAt xs ys (lastOf (elems i (λ k. k)))) (pointAt xs ys i) ≡ false =
+      ap (λ (k : ℕ). isClose (pointAt xs ys k) (pointAt xs ys i)) (last-place i h)
+      ∙ ap (λ (x : Point). isClose x (pointAt xs ys i)) (sym p)
+      ∙ ap (isClose a) (sym q)
+      ∙ sym t
+      ∙ f in
+      kept-more i
+      ∙ ap (λ (ks : List ℕ). keep xs ys ks i) e
+      ∙ keep-far (elems i (λ k. k)) i (omega (arith, elems-length (λ k. k) i)) far
+      ∙ sym (elems-suc (λ k. k) i)
+      ∙ ap (λ (n : ℕ). elems n (λ k. k)) (sym (add-one i))
+
+  pub clean-few : length xs < 2 → kept xs ys ≡ elems (length xs) (λ k. k)
+  unfolding kept dropLast foldBelow keep runs elems
+  clean-few h = at (length xs) h
+    where
+      at : (n : ℕ) → n < 2 → dropLast xs ys (keptOf xs ys n) ≡ elems n (λ k. k)
+      at zero l = refl
+      at (suc zero) l = refl
+      at (suc (suc n)) l = absurd (omega arith)
+
+  pub clean-end : {i : ℕ} {a b : Point} {close : Bool} → 1 < length xs → i ≡ length xs → keptOf xs ys i ≡ elems i (λ k. k) → a ≡ pointAt xs ys 0 → b ≡ pointAt xs ys (length xs - 1) → close ≡ isClose a b → close ≡ false
+      → kept xs ys ≡ elems (length xs) (λ k. k)
+  unfolding kept dropLast
+  clean-end {i} {a} {b} more h e p q t f =
+      let n : ℕ = length xs in
+      let all : keptOf xs ys n ≡ elems n (λ k. k) = ap (keptOf xs ys) (sym h) ∙ e ∙ ap (λ (k : ℕ). elems k (λ k. k)) h in
+      let far : isClose (pointAt xs ys (getD (elems n (λ k. k)) 0 0)) (pointAt xs ys (lastOf (elems n (λ k. k)))) ≡ false =
+      ap (λ (k : ℕ). isClose (pointAt xs ys k) (pointAt xs ys (lastOf (elems n (λ k. k))))) (elems-at (λ k. k) 0 n 0 (omega arith))
+      ∙ ap (λ (k : ℕ). isClose (pointAt xs ys 0) (pointAt xs ys k)) (last-place n (omega arith))
+      ∙ ap (λ (x : Point). isClose x (pointAt xs ys (n - 1))) (sym p)
+      ∙ ap (isClose a) (sym q)
+      ∙ sym t
+      ∙ f in
+      ap (dropLast xs ys) all ∙ rw (far, elems-length (λ k. k) n, lt-ltb 1 n more)
 
   -- ---- the loop
 

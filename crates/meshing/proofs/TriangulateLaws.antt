@@ -69,14 +69,17 @@ pub ring-fine : (xs ys : List Float) (m n c : ℕ) → m ≡ n → ringFault xs 
 unfolding triangulatePolygon
 ring-fine xs ys m n c h e = rw (eq-eqb m n h, e)
 
+pub ring-few : (xs ys : List Float) → length xs < 3 → trianglesOf xs ys ≡ refused 3
+unfolding trianglesOf
+ring-few xs ys h = rw (lt-leb 3 (length xs) h)
+
 module _ (xs ys : List Float) (m c : ℕ) (ks : List ℕ) where
   pub not-cut : {why : ℕ} → trianglesOf (gathered xs ks) (gathered ys ks) ≡ refused why → cutting xs ys m c ks ≡ refused why
   unfolding cutting
   not-cut e = rw e
 
   few : length ks < 3 → trianglesOf (gathered xs ks) (gathered ys ks) ≡ refused 3
-  unfolding trianglesOf
-  few h = rw (gather-length nan xs ks, lt-leb 3 (length ks) h)
+  few h = ring-few (gathered xs ks) (gathered ys ks) (omega (arith, h, gather-length nan xs ks))
 
   pub too-few : length ks < 3 → cutting xs ys m c ks ≡ refused 3
   too-few h = not-cut (few h)
@@ -187,23 +190,28 @@ done (given ts) l e =
     let g : triples l ≡ ts = ap triples f ∙ triples-corners ts in
     (ap given (sym g), ap corners g ∙ sym f)
 
+-- rx and ry have been clipped, and out is what their clipping left
+module _ (rx ry : List Float) (out : List ℕ) (r : Cut) (g : cutAnswer r out ≡ mapAnswer corners (trianglesOf rx ry)) where
+  pub ring-stalled : r ≡ Stalled → trianglesOf rx ry ≡ refused 4
+  ring-stalled s = stalled (trianglesOf rx ry) (ap (λ (q : Cut). cutAnswer q out) (sym s) ∙ g)
+
+  pub ring-cut : r ≡ Done → (trianglesOf rx ry ≡ given (triples out)) × (corners (triples out) ≡ out)
+  ring-cut d = done (trianglesOf rx ry) out (ap (λ (q : Cut). cutAnswer q out) (sym d) ∙ g)
+
 -- The points at the places kept, gathered, are rx and ry; out has been written with what their clipping gives.
 module _ (xs ys rx ry : List Float) (m c : ℕ) (e : rx ≡ gathered xs (kept xs ys)) (f : ry ≡ gathered ys (kept xs ys)) where
   same-triangles : trianglesOf rx ry ≡ trianglesOf (gathered xs (kept xs ys)) (gathered ys (kept xs ys))
   same-triangles = ap (λ (l : List Float). trianglesOf l ry) e ∙ ap (trianglesOf (gathered xs (kept xs ys))) f
 
   pub cut-stalled : (out : List ℕ) (r : Cut) → r ≡ Stalled → cutAnswer r out ≡ mapAnswer corners (trianglesOf rx ry) → cutting xs ys m c (kept xs ys) ≡ refused 4
-  cut-stalled out r s g = not-cut xs ys m c (kept xs ys) (sym same-triangles ∙ stalled (trianglesOf rx ry) (ap (λ (q : Cut). cutAnswer q out) (sym s) ∙ g))
+  cut-stalled out r s g = not-cut xs ys m c (kept xs ys) (sym same-triangles ∙ ring-stalled rx ry out r g s)
 
   module _ (out : List ℕ) (r : Cut) (d : r ≡ Done) (g : cutAnswer r out ≡ mapAnswer corners (trianglesOf rx ry)) where
-    is-done : (trianglesOf rx ry ≡ given (triples out)) × (corners (triples out) ≡ out)
-    is-done = done (trianglesOf rx ry) out (ap (λ (q : Cut). cutAnswer q out) (sym d) ∙ g)
-
     pub whole-triangles : corners (triples out) ≡ out
-    whole-triangles = is-done .1
+    whole-triangles = ring-cut rx ry out r g d .1
 
     pub cut-done : (ks : List ℕ) → ks ≡ kept xs ys → fitted m c ks (triples out) ≡ cutting xs ys m c (kept xs ys)
-    cut-done ks h = ap (λ (l : List ℕ). fitted m c l (triples out)) h ∙ sym (cut-to xs ys m c (kept xs ys) (sym same-triangles ∙ is-done .0))
+    cut-done ks h = ap (λ (l : List ℕ). fitted m c l (triples out)) h ∙ sym (cut-to xs ys m c (kept xs ys) (sym same-triangles ∙ ring-cut rx ry out r g d .0))
 
 -- the first n places of a list written over with the points at n places
 pub gathered-start : (l : List Float) (old new : List Float) (ks : List ℕ) (n : ℕ) → new ≡ put old 0 (gathered l ks) → n ≡ length ks → take n new ≡ gathered l ks

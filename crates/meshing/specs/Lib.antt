@@ -9,4 +9,11 @@ pub mod Cells
 pub mod Grid
 pub mod Added
 pub mod Boxes
+pub mod Rectilinear
+pub mod Levels
+pub mod Crossings
+pub mod Quads
+pub mod Scanline
+pub mod Prisms
+pub mod Regions
 pub mod Paper

@@ -5,13 +5,15 @@ ghost use mathlib.Core.List.{[], _∷_};
 ghost use lib.ListN.{length, take, drop};
 ghost use lib.Ieee.{lt};
 ghost use Rattle.lists.specs.Answer.{mapAnswer};
-ghost use Rattle.lists.specs.Lists.{Below, first, nextOf, prevOf, put};
+ghost use Rattle.lists.specs.Lists.{Below, first, put};
 ghost use Rattle.binary64.specs.Constants.{zero64};
-ghost use Rattle.openrdson_core.specs.Points.{pointAt};
 ghost use Rattle.meshing.specs.Triangles.{corners};
 ghost use Rattle.meshing.specs.Clipping.{triangleAt, without, clip};
 ghost use Rattle.meshing.specs.Ears as spec;
 ghost use Rattle.meshing.specs.Answers.{earAnswer, cutAnswer};
+use crate::ring::next_place;
+use crate::ring::point_at;
+use crate::ring::prev_place;
 use openrdson_core::Point;
 
 // The place of an ear in a walk, if it has one.
@@ -53,35 +55,6 @@ fn turns_left(a: Point, b: Point, c: Point) -> bool
     ensures { λ r. ⌜ r ≡ lt zero64 (spec.turn a b c) ⌝ }
 {
     (b.x - a.x) * (c.y - a.y) - (b.y - a.y) * (c.x - a.x) > 0.0
-}
-
-// The point at place i.
-fn point_at(xs: &[f64], ys: &[f64], i: usize) -> Point
-    requires { ⌜ (length (now ys) ≡ length (now xs)) × (i < length (now xs)) ⌝ }
-    ensures { λ r. ⌜ r ≡ pointAt (now (xs .entry)) (now (ys .entry)) i ⌝ }
-{
-    Point::new(xs[i], ys[i])
-}
-
-// The neighbours of place i on a ring of m places.
-fn next_place(m: usize, i: usize) -> usize
-    requires { ⌜ i < m ⌝ }
-    ensures { λ r. ⌜ (r ≡ nextOf m i) × (r < m) ⌝ }
-{
-    if i + 1 < m {
-        return i + 1;
-    }
-    0
-}
-
-fn prev_place(m: usize, i: usize) -> usize
-    requires { ⌜ i < m ⌝ }
-    ensures { λ r. ⌜ (r ≡ prevOf m i) × (r < m) ⌝ }
-{
-    if i > 0 {
-        return i - 1;
-    }
-    m - 1
 }
 
 // Whether vertex j is none of a, b and c, and lies inside or on their triangle.

@@ -1,9 +1,11 @@
-// Cleaning a ring: a point that is close to the one before it is dropped.
+// Rings: their points and neighbours, and cleaning, which drops a point that is close to the one before it.
 ghost use mathlib.Core.Path.{_≡_};
-ghost use Prim.Native.Nat.{_≤_};
+ghost use mathlib.Core.Bool.{true};
+ghost use Prim.Native.Nat.{_≤_, _<_};
 ghost use lib.ListN.{length};
-ghost use Rattle.lists.specs.Lists.{put, Below};
-ghost use Rattle.meshing.specs.Ring.{isClose, gathered, KeptIn, CleanedAs};
+ghost use Rattle.lists.specs.Lists.{put, elems, Below, nextOf, prevOf};
+ghost use Rattle.openrdson_core.specs.Points.{pointAt};
+ghost use Rattle.meshing.specs.Ring.{isClose, kept, gathered, KeptIn, CleanedAs};
 use openrdson_core::Check;
 use openrdson_core::Point;
 use openrdson_core::Refusal;
@@ -17,6 +19,35 @@ pub enum Cleaned {
 
 // 2^-52, Rust's f64::EPSILON.
 const TINY: f64 = 2.220446049250313e-16;
+
+// The point at place i.
+pub fn point_at(xs: &[f64], ys: &[f64], i: usize) -> Point
+    requires { ⌜ (length (now ys) ≡ length (now xs)) × (i < length (now xs)) ⌝ }
+    ensures { λ r. ⌜ r ≡ pointAt (now (xs .entry)) (now (ys .entry)) i ⌝ }
+{
+    Point::new(xs[i], ys[i])
+}
+
+// The neighbours of place i on a ring of m places.
+pub fn next_place(m: usize, i: usize) -> usize
+    requires { ⌜ i < m ⌝ }
+    ensures { λ r. ⌜ (r ≡ nextOf m i) × (r < m) ⌝ }
+{
+    if i + 1 < m {
+        return i + 1;
+    }
+    0
+}
+
+pub fn prev_place(m: usize, i: usize) -> usize
+    requires { ⌜ i < m ⌝ }
+    ensures { λ r. ⌜ (r ≡ prevOf m i) × (r < m) ⌝ }
+{
+    if i > 0 {
+        return i - 1;
+    }
+    m - 1
+}
 
 // Writes a ring without the points that are close to the last one kept; 16, 2, 1, 12.
 pub fn dedup_ring(xs: &[f64], ys: &[f64], out_x: &mut [f64], out_y: &mut [f64]) -> Cleaned
@@ -40,6 +71,26 @@ pub fn dedup_ring(xs: &[f64], ys: &[f64], out_x: &mut [f64], out_y: &mut [f64]) 
             Cleaned::Points(count)
         }
     }
+}
+
+// Whether no point of a ring is close to the one before it, and the last is not to the first: cleaning then keeps all of them.
+// For callers that have checked the ring.
+pub fn is_clean(xs: &[f64], ys: &[f64]) -> bool
+    requires { ⌜ length (now ys) ≡ length (now xs) ⌝ }
+    ensures { λ r. ⌜ (r ≡ true → kept (now (xs .entry)) (now (ys .entry)) ≡ elems (length (now (xs .entry))) (λ i. i)) ⌝ }
+{
+    let n = xs.len();
+    if n < 2 {
+        return true;
+    }
+    let mut i = 1;
+    while i < n {
+        if is_close(point_at(xs, ys, i - 1), point_at(xs, ys, i)) {
+            return false;
+        }
+        i += 1;
+    }
+    !is_close(point_at(xs, ys, 0), point_at(xs, ys, n - 1))
 }
 
 // Fills `places` with the places of the points that are kept, and counts them. For callers that have checked the ring.

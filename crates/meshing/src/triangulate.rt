@@ -99,8 +99,14 @@ pub fn clip_ring(xs: &[f64], ys: &[f64], corners: &mut [u32]) -> Cut
         Measured::Refused(_) => Cut::Stalled,
         Measured::Value(area) => {
             let n = xs.len();
+            let forward = !(area < 0.0);
+            if n <= 32 {
+                let mut few = [0usize; 32];
+                fill_walk(&mut few, n, forward);
+                return clip_walk(xs, ys, &mut few[..n], corners);
+            }
             let mut walk = [0usize; 512];
-            fill_walk(&mut walk, n, !(area < 0.0));
+            fill_walk(&mut walk, n, forward);
             clip_walk(xs, ys, &mut walk[..n], corners)
         }
     }

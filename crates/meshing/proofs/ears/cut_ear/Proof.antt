@@ -6,8 +6,8 @@ use Rattle.meshing.proofs.ears.cut_ear.Statement.{statement}
 use Rattle.meshing.proofs.ears.cut_ear.Tie as tie
 use Rattle.meshing.proofs.ears.cut_ear.Reads as reads
 use Rattle.meshing.proofs.ears.cut_ear.Lts as lts
-use Rattle.meshing.proofs.ears.next_place.Reads as next-place-reads
-use Rattle.meshing.proofs.ears.prev_place.Reads as prev-place-reads
+use Rattle.meshing.proofs.ring.next_place.Reads as next-place-reads
+use Rattle.meshing.proofs.ring.prev_place.Reads as prev-place-reads
 use Rattle.meshing.proofs.ears.put_triangle.Reads as put-triangle-reads
 use Rattle.meshing.proofs.ears.remove_at.Reads as remove-at-reads
 

@@ -17,9 +17,9 @@ use Rattle.meshing.proofs.ears.first_ear.Tie as tie
 use Rattle.meshing.proofs.ears.first_ear.Reads as reads
 use Rattle.meshing.proofs.ears.first_ear.Lts as lts
 use Rattle.meshing.proofs.ears.is_blocking.Reads as is-blocking-reads
-use Rattle.meshing.proofs.ears.next_place.Reads as next-place-reads
-use Rattle.meshing.proofs.ears.point_at.Reads as point-at-reads
-use Rattle.meshing.proofs.ears.prev_place.Reads as prev-place-reads
+use Rattle.meshing.proofs.ring.next_place.Reads as next-place-reads
+use Rattle.meshing.proofs.ring.point_at.Reads as point-at-reads
+use Rattle.meshing.proofs.ring.prev_place.Reads as prev-place-reads
 use Rattle.meshing.proofs.ears.turns_left.Reads as turns-left-reads
 
 abbrev Inv-loop : tie.InvT-loop

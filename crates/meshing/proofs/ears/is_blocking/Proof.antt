@@ -6,7 +6,7 @@ use Rattle.meshing.proofs.ears.is_blocking.Statement.{statement}
 use Rattle.meshing.proofs.ears.is_blocking.Tie as tie
 use Rattle.meshing.proofs.ears.is_blocking.Reads as reads
 use Rattle.meshing.proofs.ears.is_blocking.Lts as lts
-use Rattle.meshing.proofs.ears.point_at.Reads as point-at-reads
+use Rattle.meshing.proofs.ring.point_at.Reads as point-at-reads
 use Rattle.meshing.proofs.ears.point_in_triangle.Reads as point-in-triangle-reads
 
 point-at-requires : tie.Need-point-at-requires

@@ -2,10 +2,10 @@
 use native.Mathlib.Omega.{arith}
 use borrow.Author.Needs.{needs}
 use borrow.Author.Tests.{lt-ltb, le-ltb}
-use Rattle.meshing.proofs.ears.prev_place.Statement.{statement}
-use Rattle.meshing.proofs.ears.prev_place.Tie as tie
-use Rattle.meshing.proofs.ears.prev_place.Reads as reads
-use Rattle.meshing.proofs.ears.prev_place.Lts as lts
+use Rattle.meshing.proofs.ring.prev_place.Statement.{statement}
+use Rattle.meshing.proofs.ring.prev_place.Tie as tie
+use Rattle.meshing.proofs.ring.prev_place.Reads as reads
+use Rattle.meshing.proofs.ring.prev_place.Lts as lts
 
 sub-result : tie.Need-sub-result
 sub-result c = search needs

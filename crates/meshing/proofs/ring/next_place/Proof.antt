@@ -3,10 +3,10 @@ use native.Mathlib.Omega.{arith}
 use borrow.Author.Needs.{needs}
 use mathlib.Core.Path.{sym}
 use Rattle.lists.proofs.Places.{next-inside, next-last}
-use Rattle.meshing.proofs.ears.next_place.Statement.{statement}
-use Rattle.meshing.proofs.ears.next_place.Tie as tie
-use Rattle.meshing.proofs.ears.next_place.Reads as reads
-use Rattle.meshing.proofs.ears.next_place.Lts as lts
+use Rattle.meshing.proofs.ring.next_place.Statement.{statement}
+use Rattle.meshing.proofs.ring.next_place.Tie as tie
+use Rattle.meshing.proofs.ring.next_place.Reads as reads
+use Rattle.meshing.proofs.ring.next_place.Lts as lts
 
 add-if1 : tie.Need-add-if1
 add-if1 c = search needs
