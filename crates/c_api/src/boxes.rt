@@ -51,7 +51,7 @@ pub extern "C" fn openrdson_axis_coordinate(
 }
 
 // The numbers of nodes and of elements that a mesh has now.
-fn give_grown(answer: Meshed, nodes: &mut usize, elements: &mut usize) -> u32
+pub fn give_grown(answer: Meshed, nodes: &mut usize, elements: &mut usize) -> u32
     ensures { λ r. ⌜ Given (meshedAnswer answer) r (theCounts (now (nodes .entry)) (now (elements .entry))) (theCounts (now (nodes .exit)) (now (elements .exit))) ⌝ }
 {
     match answer {

@@ -4,6 +4,7 @@ mod blocks;
 mod boxes;
 mod numbers;
 mod polygons;
+mod prisms;
 mod regions;
 mod rings;
 mod solids;
