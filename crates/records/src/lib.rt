@@ -1,16 +1,24 @@
-// What the programs that replay records share: the words of a record, its answer, reading and counting, and the lines of the report.
+// What the programs that replay records share: the words of a record, its answer, the lists that a call is lent, reading and counting, and the lines of the report.
 mod answers;
+mod entries;
 mod input;
 mod report;
 mod words;
 
 pub use answers::Answer;
+pub use entries::FLOAT_BEFORE;
+pub use entries::KIND_BEFORE;
+pub use entries::NUMBER_BEFORE;
+pub use entries::same_kinds;
+pub use entries::same_numbers;
+pub use entries::same_reals;
 pub use input::count_case;
 pub use input::first_bytes;
 pub use input::place_of;
 pub use input::read_on;
 pub use report::print_all;
 pub use report::print_call;
+pub use words::at_most;
 pub use words::bits;
 pub use words::complement;
 pub use words::float_at;

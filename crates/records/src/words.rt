@@ -3,7 +3,7 @@ ghost use mathlib.Core.Path.{_≡_};
 ghost use Prim.Native.Nat.{_≤_};
 ghost use lib.ListN.{length};
 
-fn wide(x: u8) -> u64 {
+pub fn wide(x: u8) -> u64 {
     x as u64
 }
 
@@ -63,15 +63,22 @@ pub fn narrow(n: u64) -> u32 {
     n as u32
 }
 
+// The word at place i, or `most` where it is above.
+pub fn at_most(bytes: &[u8], i: usize, most: usize) -> usize
+    ensures { λ r. ⌜ r ≤ most ⌝ }
+{
+    let n = word(bytes, i) as usize;
+    if n > most {
+        return most;
+    }
+    n
+}
+
 // A list's length at place i, or 1,024 where it is longer.
 pub fn length_at(bytes: &[u8], i: usize) -> usize
     ensures { λ r. ⌜ r ≤ 1024 ⌝ }
 {
-    let n = word(bytes, i);
-    if n > 1024 {
-        return 1024;
-    }
-    n as usize
+    at_most(bytes, i, 1024)
 }
 
 // The float at place i.

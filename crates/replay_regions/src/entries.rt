@@ -1,21 +1,12 @@
-// The lists of a record, each of at most 16 entries, and what a call left in such lists.
+// The lists of a record, each of at most 16 entries.
 ghost use mathlib.Core.Path.{_≡_};
 ghost use Prim.Native.Nat.{_≤_};
 ghost use lib.ListN.{length};
 use crate::places::list_place;
-use crate::places::small_at;
-use records::bits;
 use records::float_at;
 use records::narrow;
 use records::short;
 use records::word;
-
-// What stands in every entry of a list before a call writes to it.
-pub const KIND_BEFORE: u8 = 165;
-
-pub const NUMBER_BEFORE: u32 = 2779096485;
-
-pub const FLOAT_BEFORE: f64 = -165.0;
 
 // n, or 255 where n is above it.
 fn byte(n: u64) -> u8 {
@@ -99,64 +90,4 @@ pub fn reals_at(record: &[u8], i: usize) -> [f64; 16]
         k += 1;
     }
     list
-}
-
-// Entry k of list i, and `before` past its end.
-fn entry(record: &[u8], i: usize, k: usize, before: u64) -> u64
-    requires { ⌜ (i ≤ 26) × (k ≤ 16) ⌝ }
-{
-    if k >= small_at(record, i) {
-        return before;
-    }
-    word(record, list_place(record, i) + k)
-}
-
-fn wide(x: u8) -> u64 {
-    x as u64
-}
-
-fn wider(x: u32) -> u64 {
-    x as u64
-}
-
-// Whether the kinds are list i, and nothing is written past its end.
-pub fn same_kinds(list: &[u8; 16], record: &[u8], i: usize) -> bool
-    requires { ⌜ i ≤ 26 ⌝ }
-{
-    let mut k = 0;
-    while k < 16 {
-        if wide(list[k]) != entry(record, i, k, wide(KIND_BEFORE)) {
-            return false;
-        }
-        k += 1;
-    }
-    true
-}
-
-// The same of whole numbers.
-pub fn same_numbers(list: &[u32; 16], record: &[u8], i: usize) -> bool
-    requires { ⌜ i ≤ 26 ⌝ }
-{
-    let mut k = 0;
-    while k < 16 {
-        if wider(list[k]) != entry(record, i, k, wider(NUMBER_BEFORE)) {
-            return false;
-        }
-        k += 1;
-    }
-    true
-}
-
-// The same of floats, by their bits.
-pub fn same_reals(list: &[f64; 16], record: &[u8], i: usize) -> bool
-    requires { ⌜ i ≤ 26 ⌝ }
-{
-    let mut k = 0;
-    while k < 16 {
-        if bits(list[k]) != entry(record, i, k, bits(FLOAT_BEFORE)) {
-            return false;
-        }
-        k += 1;
-    }
-    true
 }

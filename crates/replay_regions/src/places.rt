@@ -1,6 +1,7 @@
 // Where the parts of a record stand. Its first 36 words are the call's number, the lengths of its lists (1 to 6 the blocks, in bytes; 7 and 8 the points;
 // 9 to 12 the polygons; 13 to 24 the regions; 25 the outcomes), six floats, a material, a net, the status and a value. Then the lists follow in this order.
 ghost use Prim.Native.Nat.{_≤_, _<_, _+_, _*_};
+use records::at_most;
 use records::length_at;
 use records::word;
 
@@ -41,11 +42,7 @@ pub fn points_place(record: &[u8]) -> usize
 pub fn small_at(record: &[u8], i: usize) -> usize
     ensures { λ r. ⌜ r ≤ 16 ⌝ }
 {
-    let n = word(record, i);
-    if n > 16 {
-        return 16;
-    }
-    n as usize
+    at_most(record, i, 16)
 }
 
 // The word where list i starts, of those after the points. List 26 is past the last.

@@ -1,19 +1,21 @@
 // Stacking: the record's region lists and outcomes are those after the call.
-use crate::entries::FLOAT_BEFORE;
-use crate::entries::KIND_BEFORE;
-use crate::entries::NUMBER_BEFORE;
+ghost use Prim.Native.Nat.{_≤_};
 use crate::entries::numbers_at;
-use crate::entries::same_kinds;
-use crate::entries::same_numbers;
-use crate::entries::same_reals;
 use crate::entries::shorts_at;
 use crate::places::block;
+use crate::places::list_place;
 use crate::places::points_place;
 use crate::places::small_at;
 use geometry::Stacked;
 use geometry::assemble_stack;
+use records::FLOAT_BEFORE;
+use records::KIND_BEFORE;
+use records::NUMBER_BEFORE;
 use records::floats_at;
 use records::length_at;
+use records::same_kinds;
+use records::same_numbers;
+use records::same_reals;
 use records::word;
 
 // Whether the status and the number of regions are the record's.
@@ -23,6 +25,27 @@ fn is_recorded(record: &[u8], stacked: Stacked) -> bool {
             & (0 == word(record, 35)),
         Stacked::Regions(rows) => (0 == word(record, 34)) & (rows as u64 == word(record, 35)),
     }
+}
+
+// Whether these kinds are list i of the record, and nothing is written past its end.
+fn are_kinds(list: &[u8; 16], record: &[u8], i: usize) -> bool
+    requires { ⌜ i ≤ 26 ⌝ }
+{
+    same_kinds(list, record, list_place(record, i), 0, small_at(record, i))
+}
+
+// The same of whole numbers.
+fn are_numbers(list: &[u32; 16], record: &[u8], i: usize) -> bool
+    requires { ⌜ i ≤ 26 ⌝ }
+{
+    same_numbers(list, record, list_place(record, i), 0, small_at(record, i))
+}
+
+// The same of floats.
+fn are_reals(list: &[f64; 16], record: &[u8], i: usize) -> bool
+    requires { ⌜ i ≤ 26 ⌝ }
+{
+    same_reals(list, record, list_place(record, i), 0, small_at(record, i))
 }
 
 // Whether the twelve region lists and the outcomes are the record's.
@@ -42,13 +65,13 @@ fn are_lists_recorded(
     polygons: &[u32; 16],
     outcomes: &[u8; 16],
 ) -> bool {
-    let low = same_reals(min_x, record, 14) & same_reals(min_y, record, 15);
-    let high = same_reals(max_x, record, 16) & same_reals(max_y, record, 17);
-    let heights = same_reals(z_bottom, record, 18) & same_reals(z_top, record, 19);
-    let parts = same_numbers(starts, record, 20) & same_numbers(counts, record, 21);
-    let labels = same_numbers(materials, record, 22) & same_numbers(nets, record, 23);
-    let others = same_kinds(kinds, record, 13) & same_numbers(polygons, record, 24);
-    low & high & heights & parts & labels & others & same_kinds(outcomes, record, 25)
+    let low = are_reals(min_x, record, 14) & are_reals(min_y, record, 15);
+    let high = are_reals(max_x, record, 16) & are_reals(max_y, record, 17);
+    let heights = are_reals(z_bottom, record, 18) & are_reals(z_top, record, 19);
+    let parts = are_numbers(starts, record, 20) & are_numbers(counts, record, 21);
+    let labels = are_numbers(materials, record, 22) & are_numbers(nets, record, 23);
+    let others = are_kinds(kinds, record, 13) & are_numbers(polygons, record, 24);
+    low & high & heights & parts & labels & others & are_kinds(outcomes, record, 25)
 }
 
 // Whether the call on these blocks and this layout answers what the record says, and leaves the lists as it says.

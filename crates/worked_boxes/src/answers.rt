@@ -1,12 +1,9 @@
-// What the calls on cells and boxes answer, compared with what is expected.
+// What the calls on cells answer, compared with what is expected.
 ghost use mathlib.Core.Path.{_≡_};
 ghost use Rattle.openrdson_core.specs.Answers.{measuredAnswer};
 ghost use Rattle.meshing.specs.Answers.{countedAnswer};
-ghost use Rattle.meshing.specs.Added.{meshedAnswer};
 ghost use Rattle.worked.specs.Asked.{isNatural, isNumber, isRefused};
-ghost use Rattle.worked_boxes.specs.Expected.{isCounts};
 use meshing::Counted;
-use meshing::Meshed;
 use openrdson_core::Measured;
 
 // The answer is this number of cells.
@@ -46,15 +43,5 @@ pub fn coordinate_refused(a: Measured, number: u32) -> bool
     match a {
         Measured::Refused(why) => why.number() == number,
         Measured::Value(_) => false,
-    }
-}
-
-// The answer is these numbers of nodes and of elements.
-pub fn is_meshed(a: Meshed, nodes: usize, elements: usize) -> bool
-    ensures { λ r. ⌜ r ≡ isCounts (meshedAnswer a) nodes elements ⌝ }
-{
-    match a {
-        Meshed::Refused(_) => false,
-        Meshed::Done(counts) => (counts.nodes == nodes) & (counts.elements == elements),
     }
 }

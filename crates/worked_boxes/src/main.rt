@@ -5,7 +5,6 @@ use answers::cells_refused;
 use answers::coordinate_refused;
 use answers::is_cells;
 use answers::is_coordinate;
-use answers::is_meshed;
 use check::expect;
 use meshing::MeshConfig;
 use meshing::axis_coordinate;
@@ -14,6 +13,7 @@ use meshing::mesh_box;
 use openrdson_core::Bbox;
 use openrdson_core::Counts;
 use openrdson_core::Material;
+use worked_meshed::is_meshed;
 
 fn cells() {
     expect(is_cells(cell_count(2.0, 1.0), 2));

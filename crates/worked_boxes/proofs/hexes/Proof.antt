@@ -15,7 +15,7 @@ use Rattle.worked_boxes.proofs.hexes.Reads as reads
 use Rattle.worked_boxes.proofs.hexes.Lts as lts
 use Rattle.check.proofs.expect.Reads as expect-reads
 use Rattle.meshing.proofs.mesh_box.Reads as mesh-box-reads
-use Rattle.worked_boxes.proofs.answers.is_meshed.Reads as is-meshed-reads
+use Rattle.worked_meshed.proofs.is_meshed.Reads as is-meshed-reads
 
 slice-aggregate-mesh-box : tie.Need-slice-aggregate-mesh-box
 slice-aggregate-mesh-box c = search needs

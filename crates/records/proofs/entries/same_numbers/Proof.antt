@@ -1,14 +1,15 @@
 -- `same_numbers` is safe and ends. Assumes nothing.
 use Prim.Native.Nat.{_-_}
 use borrow.Author.Needs.{needs}
-use Rattle.replay_regions.proofs.entries.same_numbers.Statement.{statement}
-use Rattle.replay_regions.proofs.entries.same_numbers.Tie as tie
+use lib.ListN.{length}
+use Rattle.records.proofs.entries.same_numbers.Statement.{statement}
+use Rattle.records.proofs.entries.same_numbers.Tie as tie
 
 abbrev Inv-loop : tie.InvT-loop
-Inv-loop list «record» i k₀ k = Unit {0}
+Inv-loop list «record» at from to k₀ k = Unit {0}
 
 abbrev μ-loop : tie.MeasureT-loop
-μ-loop list «record» i k₀ k = 16 - k
+μ-loop list «record» at from to k₀ k = length list - k
 
 loop-holds : tie.Need-loop-holds Inv-loop μ-loop
 loop-holds c = search needs
@@ -16,8 +17,8 @@ loop-holds c = search needs
 mul-wider : tie.Need-mul-wider Inv-loop μ-loop
 mul-wider c = search needs
 
-element-copy-out-wider : tie.Need-element-copy-out-wider Inv-loop μ-loop
-element-copy-out-wider c = search needs
+shared-slice-read-wider : tie.Need-shared-slice-read-wider Inv-loop μ-loop
+shared-slice-read-wider c = search needs
 
 wider-requires : tie.Need-wider-requires Inv-loop μ-loop
 wider-requires c κs = search needs
@@ -51,7 +52,7 @@ same-numbers-spec =
     μ-loop
     loop-holds
     mul-wider
-    element-copy-out-wider
+    shared-slice-read-wider
     wider-requires
     wider-requires-2
     entry-requires

@@ -2,10 +2,10 @@
 use mathlib.Core.Path.{ap}
 use borrow.Author.Needs.{needs}
 use Rattle.meshing.specs.Added.{meshedAnswer}
-use Rattle.worked_boxes.proofs.answers.is_meshed.Statement.{statement}
-use Rattle.worked_boxes.proofs.answers.is_meshed.Tie as tie
-use Rattle.worked_boxes.proofs.answers.is_meshed.Reads as reads
-use Rattle.worked_boxes.proofs.answers.is_meshed.Lts as lts
+use Rattle.worked_meshed.proofs.is_meshed.Statement.{statement}
+use Rattle.worked_meshed.proofs.is_meshed.Tie as tie
+use Rattle.worked_meshed.proofs.is_meshed.Reads as reads
+use Rattle.worked_meshed.proofs.is_meshed.Lts as lts
 
 enum-told : tie.Need-enum-told
 enum-told c = search needs

@@ -1,14 +1,15 @@
 -- `same_reals` is safe and ends. Assumes nothing.
 use Prim.Native.Nat.{_-_}
 use borrow.Author.Needs.{needs}
-use Rattle.replay_regions.proofs.entries.same_reals.Statement.{statement}
-use Rattle.replay_regions.proofs.entries.same_reals.Tie as tie
+use lib.ListN.{length}
+use Rattle.records.proofs.entries.same_reals.Statement.{statement}
+use Rattle.records.proofs.entries.same_reals.Tie as tie
 
 abbrev Inv-loop : tie.InvT-loop
-Inv-loop list «record» i k₀ k = Unit {0}
+Inv-loop list «record» at from to k₀ k = Unit {0}
 
 abbrev μ-loop : tie.MeasureT-loop
-μ-loop list «record» i k₀ k = 16 - k
+μ-loop list «record» at from to k₀ k = length list - k
 
 loop-holds : tie.Need-loop-holds Inv-loop μ-loop
 loop-holds c = search needs
@@ -16,8 +17,8 @@ loop-holds c = search needs
 mul-bits : tie.Need-mul-bits Inv-loop μ-loop
 mul-bits c = search needs
 
-element-copy-out-bits : tie.Need-element-copy-out-bits Inv-loop μ-loop
-element-copy-out-bits c = search needs
+shared-slice-read-bits : tie.Need-shared-slice-read-bits Inv-loop μ-loop
+shared-slice-read-bits c = search needs
 
 bits-requires : tie.Need-bits-requires Inv-loop μ-loop
 bits-requires c κs = search needs
@@ -51,7 +52,7 @@ same-reals-spec =
     μ-loop
     loop-holds
     mul-bits
-    element-copy-out-bits
+    shared-slice-read-bits
     bits-requires
     bits-requires-2
     entry-requires

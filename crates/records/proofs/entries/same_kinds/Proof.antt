@@ -1,20 +1,21 @@
 -- `same_kinds` is safe and ends. Assumes nothing.
 use Prim.Native.Nat.{_-_}
 use borrow.Author.Needs.{needs}
-use Rattle.replay_regions.proofs.entries.same_kinds.Statement.{statement}
-use Rattle.replay_regions.proofs.entries.same_kinds.Tie as tie
+use lib.ListN.{length}
+use Rattle.records.proofs.entries.same_kinds.Statement.{statement}
+use Rattle.records.proofs.entries.same_kinds.Tie as tie
 
 abbrev Inv-loop : tie.InvT-loop
-Inv-loop list «record» i k₀ k = Unit {0}
+Inv-loop list «record» at from to k₀ k = Unit {0}
 
 abbrev μ-loop : tie.MeasureT-loop
-μ-loop list «record» i k₀ k = 16 - k
+μ-loop list «record» at from to k₀ k = length list - k
 
 loop-holds : tie.Need-loop-holds Inv-loop μ-loop
 loop-holds c = search needs
 
-element-copy-out-wide : tie.Need-element-copy-out-wide Inv-loop μ-loop
-element-copy-out-wide c = search needs
+shared-slice-read-wide : tie.Need-shared-slice-read-wide Inv-loop μ-loop
+shared-slice-read-wide c = search needs
 
 wide-requires : tie.Need-wide-requires Inv-loop μ-loop
 wide-requires c κs = search needs
@@ -47,7 +48,7 @@ same-kinds-spec =
     Inv-loop
     μ-loop
     loop-holds
-    element-copy-out-wide
+    shared-slice-read-wide
     wide-requires
     wide-requires-2
     entry-requires
