@@ -1,7 +1,7 @@
 //! The calls compared: their numbers, names, blocks, refusals and outputs.
 use crate::blocks::Kind;
 
-/// Each call by its number in the recorded answers; those from 22 to 39 and from 44 on are not recorded.
+/// Each call by its number in the recorded answers; those from 22 to 39 are not recorded.
 #[derive(Clone, Copy, PartialEq, Debug)]
 #[repr(u64)]
 pub enum Call {
@@ -73,6 +73,11 @@ pub const RECORDED_BLOCKS: std::ops::Range<usize> = 13..21;
 /// Those on regions, and the number of `assemble_stack`.
 pub const RECORDED_REGIONS: [Call; 3] = [ExtrudePolygon, ExtrudeBox, TotalVolume];
 pub const RECORDED_STACKS: u64 = 43;
+
+/// Those on axes, and the numbers of `mesh_box` and `mesh_prism`.
+pub const RECORDED_AXES: [Call; 2] = [CellCount, AxisCoordinate];
+pub const RECORDED_BOXES: u64 = 46;
+pub const RECORDED_PRISMS: u64 = 47;
 
 /// One value of an accepted call.
 #[derive(Clone, Copy, PartialEq)]

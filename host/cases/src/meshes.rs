@@ -1,13 +1,32 @@
-//! Jobs of `mesh_box`: what is lent, and what is given.
-mod by_hand;
-mod draw;
+//! Jobs of the calls that mesh a region: what is lent, and what is given.
+pub mod boxes;
+mod lists;
+pub mod prisms;
+
+pub use lists::lengths;
+
+use crate::case::List;
+
+#[derive(Clone, Copy, PartialEq)]
+pub enum Call {
+    MeshBox,
+    MeshPrism,
+    MeshBoxRegion,
+    MeshPrismRegion,
+}
 
 pub struct Job {
-    /// min_x, min_y, max_x, max_y, z_bottom, z_top.
-    pub bounds: [f64; 6],
+    pub call: Call,
+    pub solid: Solid,
+    /// The point lists; `mesh_box` has none.
+    pub xs: List,
+    pub ys: List,
     pub material: u32,
+    /// The number that its elements carry.
     pub region: u32,
-    /// Across, and in height.
+    /// A net and a polygon, which only the calls on a region are given, and nothing depends on.
+    pub labels: [u32; 2],
+    /// Across, and in height; a prism's are not looked at, and `mesh_prism` has none.
     pub cells: [f64; 2],
     /// The nodes and elements that the mesh has already.
     pub counts: [usize; 2],
@@ -15,7 +34,14 @@ pub struct Job {
     pub lengths: [usize; 6],
 }
 
-/// The nodes and elements of a box; eight places an element, which are numbers in the whole mesh.
+pub enum Solid {
+    /// min_x, min_y, max_x, max_y, z_bottom, z_top.
+    Box([f64; 6]),
+    /// z_bottom and z_top, and a part of the point lists.
+    Prism { heights: [f64; 2], start: u32, count: u32 },
+}
+
+/// The nodes and elements of a region; eight places an element, which are numbers in the whole mesh.
 pub struct Given {
     pub nodes: Vec<[f64; 3]>,
     pub kinds: Vec<u8>,
@@ -23,10 +49,11 @@ pub struct Given {
     pub said: Vec<Kind>,
 }
 
-/// Why a box is not meshed, in document 01's order.
+/// Why a region is not meshed; of each call in document 01's order.
 #[derive(Clone, Copy, PartialEq, Debug)]
 pub enum Fault {
     Lists,
+    PointLists,
     NodeCount,
     ElementCount,
     Material,
@@ -35,6 +62,18 @@ pub enum Fault {
     CellSize,
     NotPositive,
     TooMany,
+    Part,
+    LongLists,
+    LongPart,
+    Coordinate,
+    Height,
+    Upside,
+    /// The scanline's.
+    TooFew,
+    OneLevel,
+    Crossing,
+    NoTrapezoid,
+    FarNode,
     /// The mesh would have more than it may; the list is too short.
     NodesMost,
     NodeRoom,
@@ -48,15 +87,35 @@ pub enum Kind {
     OneCell,
     /// An axis of 4,096 cells.
     MostCells,
-    /// Beside nodes and elements that were there.
-    Appended,
-    /// No entry is left in any list.
-    ExactlyFull,
     /// Two neighbours on an axis have the same coordinate.
     Repeated,
     /// A lower end of -0, whose node is at +0; an upper one, whose node is at -0.
     LowMinusZero,
     HighMinusZero,
+    /// By the scanline, since it is rectilinear; by its triangles; by the scanline, since clipping refuses.
+    Rectilinear,
+    Clipped,
+    Stalled,
+    /// Cleaning drops a point; cleaning again drops one more; and leaves fewer than three.
+    Cleaned,
+    CleanedAgain,
+    AgainTooFew,
+    /// A height is not that of the level that it counts with; two levels are less than 2e-15 apart.
+    LevelDropped,
+    ThinBand,
+    /// A point is at the height of a band's middle.
+    EndOnMiddle,
+    /// Two neighbouring crossings give no quad.
+    FlatQuad,
+    /// A node has a coordinate -0.
+    MinusZero,
+    /// The part has points before it and after it.
+    Amid,
+    MostPoints,
+    /// Beside nodes and elements that were there.
+    Appended,
+    /// No entry is left in any list.
+    ExactlyFull,
     /// More than 100,000 nodes.
     Large,
 }
@@ -64,8 +123,9 @@ pub enum Kind {
 use Fault::*;
 use Kind::*;
 
-pub const FAULTS: [(Fault, u32, &str); 13] = [
+pub const FAULTS: [(Fault, u32, &str); 25] = [
     (Lists, 16, "lists"),
+    (PointLists, 16, "point lists"),
     (NodeCount, 15, "count of nodes"),
     (ElementCount, 15, "count of elements"),
     (Material, 15, "material"),
@@ -74,21 +134,66 @@ pub const FAULTS: [(Fault, u32, &str); 13] = [
     (CellSize, 1, "cell size"),
     (NotPositive, 6, "not positive"),
     (TooMany, 7, "too many cells"),
+    (Part, 15, "part"),
+    (LongLists, 2, "long point lists"),
+    (LongPart, 2, "long part"),
+    (Coordinate, 1, "coordinate"),
+    (Height, 1, "height"),
+    (Upside, 8, "top not above bottom"),
+    (TooFew, 3, "under three"),
+    (OneLevel, 9, "one level"),
+    (Crossing, 1, "crossing"),
+    (NoTrapezoid, 11, "no trapezoid"),
+    (FarNode, 1, "node"),
     (NodesMost, 12, "above a mesh's nodes"),
     (NodeRoom, 12, "no room for nodes"),
     (ElementsMost, 12, "above a mesh's elements"),
     (ElementRoom, 12, "no room for elements"),
 ];
 
-pub const KINDS: [(Kind, &str); 8] = [
+/// A crossing lies between the ends of its edge, but for the rounding: no ring is known that has one past 2^20.
+pub const NOT_KNOWN: Fault = Crossing;
+
+pub const KINDS: [(Kind, &str); 21] = [
     (OneCell, "one cell"),
     (MostCells, "4,096 cells"),
-    (Appended, "appended"),
-    (ExactlyFull, "exactly full"),
     (Repeated, "repeated coordinate"),
     (LowMinusZero, "low -0"),
     (HighMinusZero, "high -0"),
+    (Rectilinear, "rectilinear"),
+    (Clipped, "clipped"),
+    (Stalled, "stalled"),
+    (Cleaned, "cleaned"),
+    (CleanedAgain, "cleaned again"),
+    (AgainTooFew, "again under three"),
+    (LevelDropped, "level dropped"),
+    (ThinBand, "thin band"),
+    (EndOnMiddle, "end on a middle"),
+    (FlatQuad, "flat quad"),
+    (MinusZero, "-0"),
+    (Amid, "amid other points"),
+    (MostPoints, "512 points"),
+    (Appended, "appended"),
+    (ExactlyFull, "exactly full"),
     (Large, "large"),
+];
+
+const BOX_FAULTS: [Fault; 14] = [
+    Lists, PointLists, NodeCount, ElementCount, Material, Bounds, Extent, CellSize, NotPositive, TooMany,
+    NodesMost, NodeRoom, ElementsMost, ElementRoom,
+];
+
+const PRISM_FAULTS: [Fault; 20] = [
+    Lists, PointLists, NodeCount, ElementCount, Material, Part, LongLists, LongPart, Coordinate, Height, Upside,
+    TooFew, OneLevel, Crossing, NoTrapezoid, FarNode, NodesMost, NodeRoom, ElementsMost, ElementRoom,
+];
+
+const BOX_KINDS: [Kind; 8] =
+    [OneCell, MostCells, Appended, ExactlyFull, Repeated, LowMinusZero, HighMinusZero, Large];
+
+const PRISM_KINDS: [Kind; 16] = [
+    Rectilinear, Clipped, Stalled, Cleaned, CleanedAgain, AgainTooFew, LevelDropped, ThinBand, EndOnMiddle, FlatQuad,
+    MinusZero, Amid, MostPoints, Appended, ExactlyFull, Large,
 ];
 
 impl Fault {
@@ -98,9 +203,44 @@ impl Fault {
     }
 }
 
+impl Call {
+    /// The exported name without `openrdson_`.
+    pub fn name(self) -> &'static str {
+        match self {
+            Call::MeshBox => "mesh_box",
+            Call::MeshPrism => "mesh_prism",
+            Call::MeshBoxRegion => "mesh_box_region",
+            Call::MeshPrismRegion => "mesh_prism_region",
+        }
+    }
+
+    /// The reasons that it has, in document 01's order.
+    pub fn faults(self) -> impl Iterator<Item = Fault> {
+        let all: &[Fault] = if self.is_on_box() { &BOX_FAULTS } else { &PRISM_FAULTS };
+        all.iter().copied().filter(move |fault| self != Call::MeshBox || *fault != PointLists)
+    }
+
+    /// The kinds of meshes that are counted; each must be drawn.
+    pub fn kinds(self) -> &'static [Kind] {
+        if self.is_on_box() { &BOX_KINDS } else { &PRISM_KINDS }
+    }
+
+    fn is_on_box(self) -> bool {
+        matches!(self, Call::MeshBox | Call::MeshBoxRegion)
+    }
+
+    fn is_on_region(self) -> bool {
+        matches!(self, Call::MeshBoxRegion | Call::MeshPrismRegion)
+    }
+}
+
 impl Job {
     /// The job of this number; it depends on nothing else.
-    pub fn draw(seed: u64, number: u64) -> Job {
-        by_hand::job(number).unwrap_or_else(|| draw::job(seed, number))
+    pub fn draw(call: Call, seed: u64, number: u64) -> Job {
+        if call.is_on_box() {
+            boxes::job(call, seed, number)
+        } else {
+            prisms::job(call, seed, number)
+        }
     }
 }

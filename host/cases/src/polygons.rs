@@ -1,6 +1,6 @@
 //! Jobs of the calls on a ring that write lists: what is lent, and what is given.
-mod draw;
-mod repeats;
+pub(crate) mod draw;
+pub(crate) mod repeats;
 pub(crate) mod room;
 pub mod shapes;
 mod simple;

@@ -20,7 +20,8 @@ pub fn long(from: usize, len: usize) -> List {
     List::Borrowed(&all[from..from + len])
 }
 
-fn long_pair(r: &mut Random) -> (List, List) {
+/// Two lists of about the most entries, mostly equally long.
+pub fn long_pair(r: &mut Random) -> (List, List) {
     let len = POINTS_MOST + r.below(2);
     let other = if r.one_in(6) { len + 1 } else { len };
     (long(0, len), long(1, other))
@@ -132,6 +133,6 @@ fn long_prism(call: Call, r: &mut Random, heights: [f64; 2]) -> Case {
 }
 
 /// Numbers that nobody looks at.
-fn noise(r: &mut Random, n: usize) -> Vec<f64> {
+pub fn noise(r: &mut Random, n: usize) -> Vec<f64> {
     (0..n).map(|_| numbers::any(r)).collect()
 }

@@ -8,7 +8,8 @@ mod tally;
 
 use args::Args;
 use cases::call::CALLS;
-use cases::polygons::Call;
+use cases::meshes::Call::{MeshBox, MeshBoxRegion, MeshPrism, MeshPrismRegion};
+use cases::polygons::Call::{DedupRing, TriangulatePolygon};
 use compared::Compared;
 use meshes::Meshes;
 use polygons::Polygons;
@@ -41,9 +42,12 @@ fn main() -> ExitCode {
 fn named(args: &Args) -> Result<Calls, String> {
     let mut calls: Calls = CALLS.into_iter().map(|call| Box::new(Tally::new(call)) as Box<dyn Compared>).collect();
     calls.push(Box::new(Stacks::default()));
-    calls.push(Box::new(Polygons::new(Call::DedupRing)));
-    calls.push(Box::new(Polygons::new(Call::TriangulatePolygon)));
-    calls.push(Box::new(Meshes::default()));
+    for call in [DedupRing, TriangulatePolygon] {
+        calls.push(Box::new(Polygons::new(call)));
+    }
+    for call in [MeshBox, MeshPrism, MeshBoxRegion, MeshPrismRegion] {
+        calls.push(Box::new(Meshes::new(call)));
+    }
     if let Some(name) = &args.call {
         calls.retain(|call| call.name() == name);
         if calls.is_empty() {

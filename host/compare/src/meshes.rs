@@ -1,8 +1,8 @@
-//! The comparison of `mesh_box`.
+//! The comparison of the calls that mesh a region.
 use crate::compared::Compared;
 use crate::tally::show_list;
 use cases::expected::meshes as expected;
-use cases::meshes::{Fault, Given, Job, FAULTS, KINDS};
+use cases::meshes::{Call, Fault, Given, Job, Solid, FAULTS, KINDS, NOT_KNOWN};
 use rattle::meshes::{answer, Left};
 use std::fmt;
 
@@ -13,8 +13,8 @@ const ENOUGH: u64 = 4000;
 const PRINTED: u64 = 5;
 const ENTRIES: usize = 8;
 
-#[derive(Default)]
 pub struct Meshes {
+    call: Call,
     jobs: u64,
     accepted: u64,
     nodes: u64,
@@ -25,16 +25,19 @@ pub struct Meshes {
 
 impl Compared for Meshes {
     fn name(&self) -> &'static str {
-        "mesh_box"
+        self.call.name()
     }
 
     fn share(&self, cases: u64) -> u64 {
-        cases / 2
+        match self.call {
+            Call::MeshBox | Call::MeshPrism => cases / 2,
+            Call::MeshBoxRegion | Call::MeshPrismRegion => cases / 5,
+        }
     }
 
     fn run(&mut self, seed: u64, numbers: std::ops::Range<u64>) {
         for number in numbers {
-            let job = Job::draw(seed, number);
+            let job = Job::draw(self.call, seed, number);
             let expected = expected::answer(&job);
             self.count(&expected);
             if !answer(&job).same(&Left::expected(&job, &expected)) {
@@ -51,11 +54,15 @@ impl Compared for Meshes {
     }
 
     fn shown(&self, seed: u64, number: u64) -> String {
-        Shown { job: &Job::draw(seed, number), seed, number }.to_string()
+        Shown { job: &Job::draw(self.call, seed, number), seed, number }.to_string()
     }
 }
 
 impl Meshes {
+    pub fn new(call: Call) -> Self {
+        Meshes { call, jobs: 0, accepted: 0, nodes: 0, by_fault: [0; FAULTS.len()], by_kind: [0; KINDS.len()], mismatches: 0 }
+    }
+
     fn count(&mut self, answer: &Result<Given, Fault>) {
         self.jobs += 1;
         match answer {
@@ -69,18 +76,21 @@ impl Meshes {
     }
 
     fn never_drawn(&self) -> bool {
-        self.by_fault.iter().chain(&self.by_kind).any(|cases| *cases == 0)
+        let faults = self.call.faults().filter(|fault| *fault != NOT_KNOWN).map(|fault| self.by_fault[fault as usize]);
+        let kinds = self.call.kinds().iter().map(|kind| self.by_kind[*kind as usize]);
+        faults.chain(kinds).any(|cases| cases == 0)
     }
 }
 
 impl fmt::Display for Meshes {
     fn fmt(&self, f: &mut fmt::Formatter) -> fmt::Result {
         write!(f, "{:26}{:9} cases;  0: {}  nodes: {}", self.name(), self.jobs, self.accepted, self.nodes)?;
-        for ((_, status, name), cases) in FAULTS.iter().zip(self.by_fault) {
-            write!(f, "  {status} {name}: {cases}")?;
+        for fault in self.call.faults() {
+            let (_, status, name) = FAULTS[fault as usize];
+            write!(f, "  {status} {name}: {}", self.by_fault[fault as usize])?;
         }
-        for ((_, name), cases) in KINDS.iter().zip(self.by_kind) {
-            write!(f, "  {name}: {cases}")?;
+        for kind in self.call.kinds() {
+            write!(f, "  {}: {}", KINDS[*kind as usize].1, self.by_kind[*kind as usize])?;
         }
         if self.mismatches > 0 {
             write!(f, "  MISMATCHES: {}", self.mismatches)?;
@@ -102,10 +112,19 @@ struct Shown<'a> {
 impl fmt::Display for Shown<'_> {
     fn fmt(&self, f: &mut fmt::Formatter) -> fmt::Result {
         let job = self.job;
-        writeln!(f, "compare --call mesh_box --seed {} --number {}", self.seed, self.number)?;
-        show_list(f, "min_x min_y max_x max_y z_bottom z_top", &job.bounds)?;
+        writeln!(f, "compare --call {} --seed {} --number {}", job.call.name(), self.seed, self.number)?;
+        match &job.solid {
+            Solid::Box(bounds) => show_list(f, "min_x min_y max_x max_y z_bottom z_top", bounds)?,
+            Solid::Prism { heights, start, count } => {
+                show_list(f, "z_bottom z_top", heights)?;
+                writeln!(f, "  start {start} count {count}")?;
+            }
+        }
         show_list(f, "cell sizes", &job.cells)?;
-        writeln!(f, "  material {} region {} counts {:?} lengths {:?}", job.material, job.region, job.counts, job.lengths)?;
+        show_list(f, "point xs", &job.xs)?;
+        show_list(f, "point ys", &job.ys)?;
+        writeln!(f, "  material {} region {} net and polygon {:?}", job.material, job.region, job.labels)?;
+        writeln!(f, "  counts {:?} lengths {:?}", job.counts, job.lengths)?;
         let (expected, said) = (Left::expected(job, &expected::answer(job)), answer(job));
         for (who, left) in [("expected", &expected), ("Rattle  ", &said)] {
             writeln!(f, "  {who} status {} counts {:?}", left.status, left.counts)?;

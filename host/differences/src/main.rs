@@ -26,7 +26,8 @@ fn main() -> ExitCode {
         ("1 / 5e-324 is usize::MAX cells", cells_for(1.0, 5e-324) == usize::MAX),
         ("a volume reads past the nodes and panics", panics(|| mesh_volume(&dangling()))),
         ("a weld reads past the nodes and panics", panics(|| weld_nodes(&dangling(), 1.0).nodes.len())),
-        ("a scanline node lies beyond 2^20", far_node()),
+        ("a scanline node lies at 2^20 + 2", reaches(&[(0.0, 0.0), (524289.0, 5e-16), (0.0, 1e-15)], 1048578.0)),
+        ("a scanline node lies at 5e14", reaches(&[(1.0, 5e-16), (1.0, 1e-30), (0.0, 0.0), (0.0, -5e-16)], 5e14)),
     ];
     for (line, holds) in lines {
         if !holds {
@@ -80,7 +81,8 @@ fn dangling() -> Mesh {
     Mesh { elements: vec![element], ..Mesh::default() }
 }
 
-fn far_node() -> bool {
-    let ring = [(1.0, 5e-16), (1.0, 1e-30), (0.0, 0.0), (0.0, -5e-16)];
-    mesh_region(&prism(&ring), &CELLS).is_ok_and(|mesh| mesh.nodes.iter().any(|node| node.x.abs() > 1048576.0))
+/// Whether a node of the prism is this far from the y axis, and none is farther.
+fn reaches(footprint: &[(f64, f64)], far: f64) -> bool {
+    let farthest = |mesh: Mesh| mesh.nodes.iter().fold(0.0, |most: f64, node| most.max(node.x.abs()));
+    mesh_region(&prism(footprint), &CELLS).is_ok_and(|mesh| farthest(mesh) == far)
 }

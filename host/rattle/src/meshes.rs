@@ -1,17 +1,41 @@
-//! `mesh_box`, and what it left in the lists that it was lent.
+//! The calls that mesh a region, and what they left in the lists that they were lent.
 use crate::exports::Bbox;
-use cases::meshes::{Fault, Given, Job};
+use cases::meshes::{Call, Fault, Given, Job, Solid};
 
+type List = *const f64;
 type Out = *mut f64;
 type Numbers = *mut u32;
 
-extern "C" {
-    pub fn openrdson_mesh_box(
-        bounds: Bbox, z_bottom: f64, z_top: f64, material: u32, region: u32, lateral_cell: f64, z_cell: f64,
-        xs: Out, n1: usize, ys: Out, n2: usize, zs: Out, n3: usize,
-        kinds: *mut u8, n4: usize, places: Numbers, n5: usize, regions: Numbers, n6: usize,
-        nodes: *mut usize, elements: *mut usize,
-    ) -> u32;
+/// Each call ends with the mesh's lists and its two counts.
+macro_rules! mesh_calls {
+    ($($name:ident($($given:ident: $type:ty),*);)*) => {
+        extern "C" {
+            $(fn $name(
+                $($given: $type,)*
+                xs: Out, n1: usize, ys: Out, n2: usize, zs: Out, n3: usize,
+                kinds: *mut u8, n4: usize, places: Numbers, n5: usize, regions: Numbers, n6: usize,
+                nodes: *mut usize, elements: *mut usize,
+            ) -> u32;)*
+        }
+    };
+}
+
+mesh_calls! {
+    openrdson_mesh_box(
+        bounds: Bbox, z_bottom: f64, z_top: f64, material: u32, region: u32, lateral_cell: f64, z_cell: f64
+    );
+    openrdson_mesh_prism(
+        point_x: List, nx: usize, point_y: List, ny: usize, z_bottom: f64, z_top: f64, start: u32, count: u32,
+        material: u32, region: u32
+    );
+    openrdson_mesh_box_region(
+        bounds: Bbox, z_bottom: f64, z_top: f64, material: u32, net: u32, polygon: u32,
+        point_x: List, nx: usize, point_y: List, ny: usize, number: u32, lateral_cell: f64, z_cell: f64
+    );
+    openrdson_mesh_prism_region(
+        z_bottom: f64, z_top: f64, start: u32, count: u32, material: u32, net: u32, polygon: u32,
+        point_x: List, nx: usize, point_y: List, ny: usize, number: u32, lateral_cell: f64, z_cell: f64
+    );
 }
 
 /// Entries past the end of each list, which the call is not lent.
@@ -91,16 +115,36 @@ pub fn answer(job: &Job) -> Left {
 
 /// The call on these lists, with these counts.
 pub fn call(job: &Job, after: &mut Left) {
-    let [min_x, min_y, max_x, max_y, z_bottom, z_top] = job.bounds;
-    let [lateral_cell, z_cell] = job.cells;
+    let (px, nx, py, ny) = (job.xs.as_ptr(), job.xs.len(), job.ys.as_ptr(), job.ys.len());
+    let (material, region, [net, polygon], [across, up]) = (job.material, job.region, job.labels, job.cells);
     let [x, y, z] = after.coordinates.each_mut().map(|list| (list.as_mut_ptr(), list.len() - PAST));
+    let k = (after.kinds.as_mut_ptr(), after.kinds.len() - PAST);
     let [p, r] = [&mut after.places, &mut after.regions].map(|list| (list.as_mut_ptr(), list.len() - PAST));
     let [nodes, elements] = &mut after.counts;
-    after.status = unsafe {
-        openrdson_mesh_box(
-            Bbox { min_x, min_y, max_x, max_y }, z_bottom, z_top, job.material, job.region, lateral_cell, z_cell,
-            x.0, x.1, y.0, y.1, z.0, z.1, after.kinds.as_mut_ptr(), after.kinds.len() - PAST, p.0, p.1, r.0, r.1,
-            nodes, elements,
-        )
+    macro_rules! on_mesh {
+        ($call:ident($($given:expr),*)) => {
+            unsafe { $call($($given,)* x.0, x.1, y.0, y.1, z.0, z.1, k.0, k.1, p.0, p.1, r.0, r.1, nodes, elements) }
+        };
+    }
+    after.status = match job.solid {
+        Solid::Box([min_x, min_y, max_x, max_y, z0, z1]) => {
+            let bounds = Bbox { min_x, min_y, max_x, max_y };
+            if job.call == Call::MeshBox {
+                on_mesh!(openrdson_mesh_box(bounds, z0, z1, material, region, across, up))
+            } else {
+                on_mesh!(openrdson_mesh_box_region(
+                    bounds, z0, z1, material, net, polygon, px, nx, py, ny, region, across, up
+                ))
+            }
+        }
+        Solid::Prism { heights: [z0, z1], start, count } => {
+            if job.call == Call::MeshPrism {
+                on_mesh!(openrdson_mesh_prism(px, nx, py, ny, z0, z1, start, count, material, region))
+            } else {
+                on_mesh!(openrdson_mesh_prism_region(
+                    z0, z1, start, count, material, net, polygon, px, nx, py, ny, region, across, up
+                ))
+            }
+        }
     };
 }

@@ -1,6 +1,7 @@
-//! Writes the expected answers that crates/replay, crates/replay_blocks and crates/replay_regions replay; with --check
-//! it only says whether the files are the same.
+//! Writes the expected answers that crates/replay, crates/replay_blocks, crates/replay_regions and crates/replay_meshes
+//! replay; with --check it only says whether the files are the same.
 mod blocks;
+mod meshes;
 mod numbers;
 mod regions;
 mod sample;
@@ -15,6 +16,7 @@ fn main() -> ExitCode {
         ("crates/replay/stdin", numbers::taken()),
         ("crates/replay_blocks/stdin", blocks::taken()),
         ("crates/replay_regions/stdin", regions::taken()),
+        ("crates/replay_meshes/stdin", meshes::taken()),
     ];
     let mut same = true;
     for (name, sample) in files {

@@ -1,5 +1,5 @@
 //! The sample of extruding, the total volume and stacking: of each some accepted cases, some of each refusal, all small.
-use crate::sample::{Sample, SEED};
+use crate::sample::{Sample, Wanted, SEED};
 use cases::call::{Call, RECORDED_REGIONS, RECORDED_STACKS};
 use cases::case::{word, Answer, Case};
 use cases::expected;
@@ -40,34 +40,12 @@ pub fn taken() -> Sample {
     sample
 }
 
-/// How many cases of each status are still wanted.
-struct Wanted {
-    left: [usize; 17],
-    many: [usize; 17],
-}
-
-impl Wanted {
-    fn new(refusals: &[u32]) -> Wanted {
-        let mut left = [0; 17];
-        left[0] = ACCEPTED;
-        refusals.iter().for_each(|refusal| left[*refusal as usize] = REFUSED);
-        Wanted { left, many: [MANY; 17] }
-    }
-
-    /// Whether a case of this status and so many points is kept.
-    fn keeps(&mut self, status: u32, points: usize) -> bool {
-        let (status, many) = (status as usize, (points > FEW) as usize);
-        let keeps = self.left[status] > 0 && self.many[status] >= many;
-        if keeps {
-            self.left[status] -= 1;
-            self.many[status] -= many;
-        }
-        keeps
-    }
+fn wanted(refusals: &[u32]) -> Wanted {
+    Wanted::new(ACCEPTED, refusals.iter().map(|refusal| (*refusal as usize, REFUSED)), MANY)
 }
 
 fn take(sample: &mut Sample, call: Call) {
-    let mut wanted = Wanted::new(call.refusals());
+    let mut wanted = wanted(call.refusals());
     for number in 0..LOOKED_AT {
         let case = Case::draw(call, SEED, number);
         let points = case.xs.len().max(case.ys.len());
@@ -75,14 +53,14 @@ fn take(sample: &mut Sample, call: Call) {
             continue;
         }
         let answer = expected::answer(&case);
-        if wanted.keeps(answer.status, points) {
+        if wanted.keeps(answer.status as usize, points > FEW) {
             of_case(&case, &answer).write(sample);
         }
     }
 }
 
 fn stacks(sample: &mut Sample) {
-    let mut wanted = Wanted::new(&REFUSALS);
+    let mut wanted = wanted(&REFUSALS);
     for number in 0..LOOKED_AT {
         let job = Job::draw(SEED, number);
         if !is_small(&job) {
@@ -93,7 +71,7 @@ fn stacks(sample: &mut Sample) {
             continue;
         }
         let status = answer.as_ref().err().copied().unwrap_or(0);
-        if wanted.keeps(status, job.xs.len().max(job.ys.len())) {
+        if wanted.keeps(status as usize, job.xs.len().max(job.ys.len()) > FEW) {
             of_job(&job, &answer).write(sample);
         }
     }

@@ -82,7 +82,7 @@ fn lists(r: &mut Random, number: u64) -> (Vec<f64>, Vec<f64>) {
 }
 
 /// A ring of admitted coordinates.
-fn ring(r: &mut Random, number: u64) -> Ring {
+pub fn ring(r: &mut Random, number: u64) -> Ring {
     let n = count(r);
     let mut ring = match r.below(5) {
         0 => rings::ring(r, number),
@@ -106,8 +106,12 @@ fn ring(r: &mut Random, number: u64) -> Ring {
         _ => {}
     }
     ring.truncate(512);
-    ring.iter_mut().for_each(|(x, y)| (*x, *y) = (x.clamp(-MOST, MOST), y.clamp(-MOST, MOST)));
+    clamp(&mut ring);
     ring
+}
+
+pub fn clamp(ring: &mut Ring) {
+    ring.iter_mut().for_each(|(x, y)| (*x, *y) = (x.clamp(-MOST, MOST), y.clamp(-MOST, MOST)));
 }
 
 fn count(r: &mut Random) -> usize {
@@ -176,7 +180,7 @@ fn on_edges(r: &mut Random, ring: &mut Ring) {
 }
 
 /// As drawn, or of a size from 1e-18 to 2^20; about the origin, or so far from it that only the last digits differ.
-fn fit(r: &mut Random, ring: &mut Ring) {
+pub fn fit(r: &mut Random, ring: &mut Ring) {
     if r.one_in(3) {
         return;
     }

@@ -1,8 +1,8 @@
 //! Boxes at the limits.
-use super::Job;
+use super::filling;
 use crate::axes::SLIGHT;
+use crate::meshes::{lengths, Call, Job};
 use crate::numbers::MOST;
-use crate::paper::meshes::sizes;
 
 /// min_x, max_x, min_y, max_y, z_bottom, z_top, and the two cell sizes.
 type Numbers = [f64; 8];
@@ -60,29 +60,17 @@ const COUNTS: [([usize; 2], [usize; 2], f64); 10] = [
     ([0, usize::MAX], [8, 1], 1.0),
 ];
 
-pub fn job(number: u64) -> Option<Job> {
+pub fn job(call: Call, number: u64) -> Option<Job> {
     let number = number as usize;
     if let Some(numbers) = BOXES.get(number) {
-        return Some(filling(numbers));
+        return Some(of(call, numbers));
     }
     let (counts, [nodes, kinds], long) = COUNTS.get(number - BOXES.len())?;
-    let cells = filling(&[0.0, *long, 0.0, 1.0, 0.0, 1.0, 1.0, 1.0]);
+    let cells = of(call, &[0.0, *long, 0.0, 1.0, 0.0, 1.0, 1.0, 1.0]);
     Some(Job { counts: *counts, lengths: lengths(*nodes, *kinds), ..cells })
 }
 
-/// The box in an empty mesh whose lists it fills, or that has none.
-fn filling(numbers: &Numbers) -> Job {
+fn of(call: Call, numbers: &Numbers) -> Job {
     let [min_x, max_x, min_y, max_y, z_bottom, z_top, across, up] = *numbers;
-    let bounds = [min_x, min_y, max_x, max_y, z_bottom, z_top];
-    let mut job = Job { bounds, material: 768, region: u32::MAX, cells: [across, up], counts: [0; 2], lengths: [0; 6] };
-    if job.axes().iter().all(|n| *n <= 4096.0) {
-        let [nodes, elements] = sizes(&job);
-        job.lengths = lengths(nodes, elements);
-    }
-    job
-}
-
-/// The lengths of the lists of a mesh with room for so many nodes and elements.
-pub fn lengths(nodes: usize, elements: usize) -> [usize; 6] {
-    [nodes, nodes, nodes, elements, 8 * elements, elements]
+    filling(call, [min_x, min_y, max_x, max_y, z_bottom, z_top], [across, up])
 }
