@@ -2,6 +2,7 @@
 pub mod Values
 pub mod Sizes
 pub mod Order
+pub mod NotNumbers
 pub mod Signs
 pub mod Differences
 pub mod KeySorts
@@ -11,4 +12,5 @@ pub mod WholeRoots
 pub mod RoundedRoots
 pub mod Patterns
 pub mod NearestRoot
+pub mod SquareRoots
 pub mod Shapes

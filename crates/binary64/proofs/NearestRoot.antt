@@ -58,13 +58,13 @@ step a b p h = le-trans (le-of-eq (more a p)) (mul-le-mul-right p (lt-of-mul-lt-
     more : (a p : ℕ) → a * p + p ≡ suc a * p
     more a p = omega arith
 
-next-above : (m j q k : ℕ) → m < 2 ^ 53 → 2 ^ 52 ≤ q → q * 2 ^ k < m * 2 ^ j → q * 2 ^ k + 2 ^ k ≤ m * 2 ^ j
+pub next-above : (m j q k : ℕ) → m < 2 ^ 53 → 2 ^ 52 ≤ q → q * 2 ^ k < m * 2 ^ j → q * 2 ^ k + 2 ^ k ≤ m * 2 ^ j
 next-above m j q k h l g =
     let e = shifted m j k (coarse m j q k h l (le-of-lt g)) in
     le-trans (step q (m * 2 ^ (j - k)) (2 ^ k) (subst (λ (z : ℕ). q * 2 ^ k < z) e g)) (le-of-eq (sym e))
 
 -- below, where q is not the least number of 53 digits
-next-below : (m j q k : ℕ) → m < 2 ^ 53 → 2 ^ 52 < q → m * 2 ^ j < q * 2 ^ k → m * 2 ^ j + 2 ^ k ≤ q * 2 ^ k
+pub next-below : (m j q k : ℕ) → m < 2 ^ 53 → 2 ^ 52 < q → m * 2 ^ j < q * 2 ^ k → m * 2 ^ j + 2 ^ k ≤ q * 2 ^ k
 next-below m j q k h l g = elim (decLe k j) [
   | yes o ↦ let e = shifted m j k o in subst (λ (z : ℕ). z + 2 ^ k ≤ q * 2 ^ k) (sym e) (step (m * 2 ^ (j - k)) q (2 ^ k) (subst (λ (z : ℕ). z < q * 2 ^ k) e g))
   | no o ↦ le-trans (add-right (m * 2 ^ j) (2 ^ 52 * 2 ^ k) (2 ^ k) (le-of-lt (finer m j k h (lt-of-not-le o)))) (step (2 ^ 52) q (2 ^ k) (mul-lt-mul-of-pos-right l (pow-pos k)))

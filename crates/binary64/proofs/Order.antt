@@ -219,6 +219,9 @@ le-refl-left x y h = is-true (le x x) (le-self x (λ e. never (sym (ap (λ (z : 
 pub le-refl-right : (x y : Float) → le x y ≡ true → le y y ≡ true
 le-refl-right x y h = is-true (le y y) (le-self y (λ e. le-nan x (holds (le x nan) (sym (ap (le x) e) ∙ h))))
 
+pub number-or-nan : (x : Float) → (x ≡ nan → ⊥) → le x x ≡ true
+number-or-nan x h = is-true (le x x) (le-self x h)
+
 -- such a value lies between the infinities
 pub le-infinity : (x : Float) → le x x ≡ true → le x (inf false) ≡ true
 unfolding le

@@ -13,6 +13,9 @@ one64 = ofBits binary64 0x3ff0_0000_0000_0000
 abbrev pub two64 : Float
 two64 = ofBits binary64 0x4000_0000_0000_0000
 
+abbrev pub three64 : Float
+three64 = ofBits binary64 0x4008_0000_0000_0000
+
 -- 1e-9
 abbrev pub tolerance9 : Float
 tolerance9 = ofBits binary64 0x3e11_2e0b_e826_d695

@@ -1,9 +1,9 @@
--- Answers: what a given answer tells of the tests before it, and rows and maps taken past each other. Assumes nothing.
-use mathlib.Core.Path.{_≡_, refl, ap}
-use mathlib.Core.Bool.{Bool, true, false}
-use Prim.Native.Nat.{ℕ}
+-- Answers: what a given answer tells of the tests before it, rows and maps taken past each other, and refusals numbered from 1 on. Assumes nothing.
+use mathlib.Core.Path.{_≡_, refl, sym, ap}
+use mathlib.Core.Bool.{Bool, true, false, cond}
+use Prim.Native.Nat.{ℕ, _≤_}
 use native.Mathlib.Omega.{arith}
-use Rattle.lists.specs.Answer.{Answer, refused, given, unless, andThen, mapAnswer}
+use Rattle.lists.specs.Answer.{Answer, refused, given, unless, andThen, mapAnswer, status}
 
 -- a refusal is not a given answer
 pub refused-given : {A : Type 0} {X : Type 0} {n : ℕ} {a : A} → refused n ≡ given a → X
@@ -38,3 +38,28 @@ value other (given a) = a
 -- equal answers give equal values
 pub given-same : {A : Type 0} {a b : A} → given a ≡ given b → a ≡ b
 given-same {A} {a} e = ap (value a) e
+
+-- ---- answers whose refusals are numbered from 1 on
+
+abbrev pub Numbered : {A : Type 0} → Answer A → Type 0
+Numbered a = (k : ℕ) → a ≡ refused k → 1 ≤ k
+
+module _ {A : Type 0} where
+  pub given-numbered : (x : A) → Numbered (given x)
+  given-numbered x k e = refused-given (sym e)
+
+  pub unless-numbered : (b : Bool) (n : ℕ) {rest : Answer A} → 1 ≤ n → Numbered rest → Numbered (unless b n rest)
+  unless-numbered true n h r k e = r k e
+  unless-numbered false n h r k e = omega (arith, ap status e)
+
+  pub cond-numbered : (b : Bool) {x y : Answer A} → Numbered x → Numbered y → Numbered (cond b x y)
+  cond-numbered true p q = p
+  cond-numbered false p q = q
+
+  pub then-numbered : {B : Type 0} (a : Answer A) (f : A → Answer B) → Numbered a → ((x : A) → Numbered (f x)) → Numbered (andThen a f)
+  then-numbered (refused n) f p q k e = omega (arith, p n refl, ap status e)
+  then-numbered (given x) f p q k e = q x k e
+
+  pub map-numbered : {B : Type 0} (f : A → B) (a : Answer A) → Numbered a → Numbered (mapAnswer f a)
+  map-numbered f (refused n) p k e = omega (arith, p n refl, ap status e)
+  map-numbered f (given x) p k e = refused-given (sym e)

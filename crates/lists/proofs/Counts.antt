@@ -1,5 +1,5 @@
 -- Sums and counts over a list. Assumes nothing.
-use mathlib.Core.Path.{_≡_, refl, ap}
+use mathlib.Core.Path.{_≡_, refl, ap, _∙_}
 use mathlib.Core.Bool.{Bool, true, false, _&&_}
 use mathlib.Core.List.{List, [], _∷_, _++_, reverse, reverseAux}
 use Prim.Native.Nat.{ℕ, zero, suc, _+_, _≤_, _<_}
@@ -8,6 +8,7 @@ use lib.Dec.{eqb}
 use borrow.Author.Tests.{eqb-true, eq-eqb}
 use Rattle.lists.specs.Counts.{bit, total, occurs}
 use Rattle.lists.specs.Lists.{runs, elems, Below}
+use Rattle.lists.proofs.Fills.{elems-suc}
 
 module _ {A : Type 0} where
   module _ (f : A → ℕ) where
@@ -56,11 +57,29 @@ bit-differs a u ne = at (eqb a u) refl
     at true e = absurd (ne (eqb-true a u e))
     at false e = refl
 
+-- ---- how often a number stands in a list
+
+pub occurs-append : (u : ℕ) (s t : List ℕ) → occurs u (s ++ t) ≡ occurs u s + occurs u t
+occurs-append u s t = total-append (λ a. bit (eqb a u)) s t
+
+-- a run of one number: so often itself, and no other
+pub occurs-same : (n k : ℕ) → occurs n (elems k (λ _. n)) ≡ k
+unfolding runs elems
+occurs-same n zero = refl
+occurs-same n (suc k) =
+    ap (occurs n) (elems-suc (λ _. n) k) ∙ occurs-append n (elems k (λ _. n)) (n ∷ []) ∙ omega (arith, occurs-same n k, ap bit (eq-eqb n n refl))
+
+pub occurs-other : (n u k : ℕ) → (n ≡ u → ⊥) → occurs u (elems k (λ _. n)) ≡ 0
+unfolding runs elems
+occurs-other n u zero h = refl
+occurs-other n u (suc k) h =
+    ap (occurs u) (elems-suc (λ _. n) k) ∙ occurs-append u (elems k (λ _. n)) (n ∷ []) ∙ omega (arith, occurs-other n u k h, bit-differs n u h)
+
 -- ---- the numbers below n, each once
 
 occurs-more : (u n : ℕ) → occurs u (elems (suc n) (λ i. i)) ≡ occurs u (elems n (λ i. i)) + bit (eqb n u)
 unfolding runs elems
-occurs-more u n = omega (arith, total-append (λ a. bit (eqb a u)) (elems n (λ i. i)) (n ∷ []))
+occurs-more u n = omega (arith, occurs-append u (elems n (λ i. i)) (n ∷ []))
 
 -- none past them
 pub occurs-past : (u n : ℕ) → n ≤ u → occurs u (elems n (λ i. i)) ≡ 0

@@ -6,7 +6,7 @@ use Prim.Native.Nat.{ℕ, zero, suc, _+_, _*_, _-_, _≤_, _<_}
 use native.Mathlib.Nat.{eq-or-lt-of-le}
 use native.Mathlib.Omega.{arith}
 use lib.ListN.{length, getD, take, drop, length-append, length-take, length-drop, drop-of-length-le, List·getD-append}
-use lib.Seq.{length-take-le, take-all, take-at, drop-cons, drop-at, drop-drop, take-take, take-append-le, drop-append-le, getD-take, getD-drop, take-add}
+use lib.Seq.{length-take-le, take-all, take-at, drop-cons, drop-at, drop-drop, take-take, take-append-le, drop-append-le, getD-take, getD-drop, take-add, take-length}
 use Rattle.lists.specs.Lists.{part, put, runs, joined}
 use Rattle.lists.proofs.Fills.{runs-length, run-room}
 use Rattle.lists.proofs.Joined.{joined-runs}
@@ -139,6 +139,16 @@ module _ {A : Type 0} (l : List A) (at : ℕ) (new : List A) (h : at ≤ length 
       ap (take count) (sym (drop-drop start at (put l at new)))
       ∙ ap (part start count) from-run
       ∙ part-first new (drop (at + length new) l) start count k
+
+-- a part that a run was put right behind, and the run
+pub part-put : {A : Type 0} (l new : List A) (at e : ℕ) → at ≤ e → e ≤ length l → part at (e + length new - at) (put l e new) ≡ part at (e - at) l ++ new
+part-put {A} l new at e h g =
+    let split : e + length new - at ≡ (e - at) + length new = omega arith in
+    let place : at + (e - at) ≡ e + 0 = omega arith in
+    ap (λ (k : ℕ). part at k (put l e new)) split
+    ∙ take-add (e - at) (length new) (drop at (put l e new))
+    ∙ ap (λ (t : List A). part at (e - at) (put l e new) ++ t) (ap (take (length new)) (drop-drop (e - at) at (put l e new) ∙ ap (λ (k : ℕ). drop k (put l e new)) place) ∙ put-new l e new g 0 (length new) (omega arith) ∙ take-length new)
+    ∙ ap (λ (s : List A). s ++ new) (put-kept l e new g at (e - at) (omega arith))
 
 -- runs that are all w long
 module _ {A : Type 0} (w : ℕ) where
