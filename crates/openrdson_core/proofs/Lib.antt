@@ -5,6 +5,7 @@ pub mod BlockLaws
 pub mod LayoutLaws
 pub mod MapLaws
 pub mod Areas
+pub mod SumLaws
 pub mod Corners
 pub mod Apart
 pub mod SolidAnswers

@@ -4,6 +4,7 @@ pub mod Points
 pub mod Answers
 pub mod Bounds
 pub mod Area
+pub mod Sums
 pub mod Rectangle
 pub mod Apart
 pub mod Solids

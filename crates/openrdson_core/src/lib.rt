@@ -45,6 +45,7 @@ pub use mesh::element_sound;
 pub use mesh::element_type;
 pub use mesh::has_room;
 pub use mesh::lists_parallel;
+pub use mesh::used_places;
 pub use points::Check;
 pub use points::Judged;
 pub use points::Measured;

@@ -172,7 +172,7 @@ fn first_below(places: &[u32], n: usize, nodes: usize) -> bool
 }
 
 // How many of its places an element of a kind uses, and 0 where there is no such kind.
-fn used_places(kind: u8) -> usize
+pub fn used_places(kind: u8) -> usize
     ensures { λ r. ⌜ (r ≡ spec.usedPlaces (spec.kindOf kind)) × (r ≤ 8) ⌝ }
 {
     let found = element_type(kind);

@@ -76,8 +76,8 @@ pub fn ring_size(m: usize, n: usize) -> Check
     Check::Fine
 }
 
-// Whether every point is in range.
-fn points_in_range(xs: &[f64], ys: &[f64]) -> bool
+// Whether every point is in range. For a caller that has found the two lists equally long.
+pub fn points_in_range(xs: &[f64], ys: &[f64]) -> bool
     requires { ⌜ length (now xs) ≡ length (now ys) ⌝ }
     ensures { λ r. ⌜ r ≡ pointsIn (now (xs .entry)) (now (ys .entry)) ⌝ }
 {

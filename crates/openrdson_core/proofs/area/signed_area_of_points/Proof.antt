@@ -1,168 +1,84 @@
--- `signed_area_of_points` meets its contract: its loop is `Summing`. Assumes nothing.
+-- `signed_area_of_points` meets its contract: by the sum to the last point, and what is known from it. Assumes nothing.
+use borrow.Author.Needs.{needs}
 use Prim.Native.Nat.{_+_, _<_, _-_}
 use native.Mathlib.Omega.{arith}
-use borrow.Author.Needs.{needs}
 use mathlib.Core.Path.{_≡_, refl, sym, ap, _∙_}
-use mathlib.Core.Bool.{Bool, true, _&&_}
+use mathlib.Core.Bool.{Bool, _&&_}
 use lib.ListN.{length}
 use lib.Ieee.{Float}
-use Rattle.binary64.specs.Numbers.{_⊕_}
 use borrow.Author.Tests.{not-true, not-false, lt-ltb, le-ltb}
 use Rattle.lists.specs.Lists.{allBelow}
+use Rattle.binary64.specs.Numbers.{_⊕_}
 use Rattle.openrdson_core.specs.Area.{signedArea}
-use Rattle.openrdson_core.proofs.Areas.{Summing, summing-start, summing-more, summing-end, summing-closed}
+use Rattle.openrdson_core.proofs.SumLaws.{summed-closed, summed-known}
 use Rattle.openrdson_core.proofs.area.signed_area_of_points.Statement.{statement}
 use Rattle.openrdson_core.proofs.area.signed_area_of_points.Tie as tie
 use Rattle.openrdson_core.proofs.area.signed_area_of_points.Reads as reads
 use Rattle.openrdson_core.proofs.area.signed_area_of_points.Lts as lts
+use Rattle.openrdson_core.proofs.area.all_in_range.Reads as all-in-range-reads
 use Rattle.openrdson_core.proofs.area.cross_of.Reads as cross-of-reads
+use Rattle.openrdson_core.proofs.area.point_at.Reads as point-at-reads
+use Rattle.openrdson_core.proofs.area.sum_by_four.Reads as sum-by-four-reads
+use Rattle.openrdson_core.proofs.area.sum_to_last.Reads as sum-to-last-reads
 use Rattle.openrdson_core.proofs.points.Point.is_in_range.Reads as is-in-range-reads
 use Rattle.openrdson_core.proofs.points.Point.new.Reads as new-reads
 
-abbrev Inv-loop : tie.InvT-loop
-Inv-loop xs ys n sum₀ fine₀ i₀ sum fine i = (i < n) × (n ≡ length xs) × Summing xs ys i sum fine
-
-abbrev μ-loop : tie.MeasureT-loop
-μ-loop xs ys n sum₀ fine₀ i₀ sum fine i = n - i
-
-returns : tie.Need-returns Inv-loop μ-loop
+returns : tie.Need-returns
 unfolding signedArea allBelow
 returns c = rw (c .if1 .taken)
 
-loop-holds : tie.Need-loop-holds Inv-loop μ-loop
-loop-holds c = (omega arith, refl, summing-start (c .before .before .before .args .xs .now) (c .before .before .before .args .ys .now))
+sum-by-four-requires : tie.Need-sum-by-four-requires
+sum-by-four-requires c κs = search needs
 
-add-loop : tie.Need-add-loop Inv-loop μ-loop
-add-loop c = search needs
+sum-to-last-requires : tie.Need-sum-to-last-requires
+sum-to-last-requires c κs = search needs
 
-mul-new : tie.Need-mul-new Inv-loop μ-loop
-mul-new c = omega arith
+point-at-requires : tie.Need-point-at-requires
+point-at-requires c κs = search needs
 
-shared-slice-read-new : tie.Need-shared-slice-read-new Inv-loop μ-loop
-shared-slice-read-new c = omega arith
+shared-slice-read-new : tie.Need-shared-slice-read-new
+shared-slice-read-new c = search needs
 
-mul-new-2 : tie.Need-mul-new-2 Inv-loop μ-loop
-mul-new-2 c = omega arith
+shared-slice-read-new-2 : tie.Need-shared-slice-read-new-2
+shared-slice-read-new-2 c = search needs
 
-shared-slice-read-new-2 : tie.Need-shared-slice-read-new-2 Inv-loop μ-loop
-shared-slice-read-new-2 c = omega arith
-
-new-requires : tie.Need-new-requires Inv-loop μ-loop
+new-requires : tie.Need-new-requires
 new-requires c κs = search needs
 
-add-new : tie.Need-add-new Inv-loop μ-loop
-add-new c = omega arith
-
-mul-new-3 : tie.Need-mul-new-3 Inv-loop μ-loop
-mul-new-3 c = omega arith
-
-shared-slice-read-new-3 : tie.Need-shared-slice-read-new-3 Inv-loop μ-loop
-shared-slice-read-new-3 c = omega arith
-
-add-new-2 : tie.Need-add-new-2 Inv-loop μ-loop
-add-new-2 c = omega arith
-
-mul-new-4 : tie.Need-mul-new-4 Inv-loop μ-loop
-mul-new-4 c = omega arith
-
-shared-slice-read-new-4 : tie.Need-shared-slice-read-new-4 Inv-loop μ-loop
-shared-slice-read-new-4 c = omega arith
-
-new-requires-2 : tie.Need-new-requires-2 Inv-loop μ-loop
-new-requires-2 c κs = search needs
-
-is-in-range-requires : tie.Need-is-in-range-requires Inv-loop μ-loop
-is-in-range-requires c κs = search needs
-
-cross-of-requires : tie.Need-cross-of-requires Inv-loop μ-loop
+cross-of-requires : tie.Need-cross-of-requires
 cross-of-requires c κs = search needs
 
-add-i : tie.Need-add-i Inv-loop μ-loop
-add-i c = omega arith
+is-in-range-requires : tie.Need-is-in-range-requires
+is-in-range-requires c κs = search needs
 
-loop-less : tie.Need-loop-less Inv-loop μ-loop
-loop-less c = omega arith
+all-in-range-requires : tie.Need-all-in-range-requires
+all-in-range-requires c κs = (c .before .before .before .before .before .before .before .before .before .before .before .before .before .pre .0, summed-known (c .before .before .before .before .before .before .before .before .before .before .before .before .before .args .xs .now) (c .before .before .before .before .before .before .before .before .before .before .before .before .before .args .ys .now) (c .before .before .before .before .before .before .before .before .sum-to-last .ensures .1) (c .before .before .before .before .before .before .before .point-at .result) (c .before .before .before .before .new .result) (c .is-in-range .result) (c .before .before .before .before .before .before .before .before .sum-to-last .ensures .0) (c .before .before .before .before .before .before .before .point-at .ensures) (ap (λ (z : Float). c .before .before .before .before .before .before .before .before .sum-to-last .result .sum ⊕ z) (c .before .before .before .cross-of .ensures)) (c .is-in-range .ensures))
 
-loop-again : tie.Need-loop-again Inv-loop μ-loop
-loop-again c = (omega arith, c .before .before .before .before .before .before .before .before .before .loop .inv .1, summing-more (c .before .before .before .before .before .before .before .before .before .before .before .before .before .args .xs .now) (c .before .before .before .before .before .before .before .before .before .before .before .before .before .args .ys .now) (c .before .before .before .before .before .before .before .before .before .loop .inv .2) _ (c .before .before .before .before .before .new .ensures) _ (omega arith) (c .before .before .new2 .ensures) (ap (λ (b : Bool). c .before .before .before .before .before .before .before .before .before .loop .fine && b) (c .before .is-in-range .ensures)) (ap (λ (x : Float). c .before .before .before .before .before .before .before .before .before .loop .sum ⊕ x) (c .cross-of .ensures)))
+returns-2 : tie.Need-returns-2
+returns-2 c = rw (sym (c .before .all-in-range .ensures) ∙ not-true _ (c .if2 .taken))
 
-mul-new-5 : tie.Need-mul-new-5 Inv-loop μ-loop
-mul-new-5 c = omega arith
-
-shared-slice-read-new-5 : tie.Need-shared-slice-read-new-5 Inv-loop μ-loop
-shared-slice-read-new-5 c = omega arith
-
-mul-new-6 : tie.Need-mul-new-6 Inv-loop μ-loop
-mul-new-6 c = omega arith
-
-shared-slice-read-new-6 : tie.Need-shared-slice-read-new-6 Inv-loop μ-loop
-shared-slice-read-new-6 c = omega arith
-
-new-requires-3 : tie.Need-new-requires-3 Inv-loop μ-loop
-new-requires-3 c κs = search needs
-
-is-in-range-requires-2 : tie.Need-is-in-range-requires-2 Inv-loop μ-loop
-is-in-range-requires-2 c κs = search needs
-
-returns-2 : tie.Need-returns-2 Inv-loop μ-loop
-returns-2 c = rw (sym (summing-end (c .before .before .before .before .before .before .before .before .before .before .args .xs .now) (c .before .before .before .before .before .before .before .before .before .before .args .ys .now) (c .before .before .before .before .before .before .loop .inv .2) _ (c .before .before .new3 .ensures) (omega arith) (ap (λ (b : Bool). c .before .before .before .before .before .before .loop .fine && b) (c .before .is-in-range2 .ensures))) ∙ not-true _ (c .if2 .taken))
-
-returns-3 : tie.Need-returns-3 Inv-loop μ-loop
+returns-3 : tie.Need-returns-3
 unfolding signedArea
-returns-3 c = rw (sym (summing-end (c .before .before .before .before .before .before .before .before .before .before .before .args .xs .now) (c .before .before .before .before .before .before .before .before .before .before .before .args .ys .now) (c .before .before .before .before .before .before .before .loop .inv .2) _ (c .before .before .before .new3 .ensures) (omega arith) (ap (λ (b : Bool). c .before .before .before .before .before .before .before .loop .fine && b) (c .before .before .is-in-range2 .ensures))) ∙ not-false _ (c .before .if2 .left), lt-ltb (length (c .before .before .before .before .before .before .before .before .before .before .before .args .xs .now)) 3 (omega arith))
+returns-3 c = rw (sym (c .before .before .all-in-range .ensures) ∙ not-false _ (c .before .if2 .left), lt-ltb (length (c .before .before .before .before .before .before .before .before .before .before .before .before .before .before .before .before .args .xs .now)) 3 (omega arith))
 
-shared-slice-read-new-7 : tie.Need-shared-slice-read-new-7 Inv-loop μ-loop
-shared-slice-read-new-7 c = omega arith
-
-shared-slice-read-new-8 : tie.Need-shared-slice-read-new-8 Inv-loop μ-loop
-shared-slice-read-new-8 c = omega arith
-
-new-requires-4 : tie.Need-new-requires-4 Inv-loop μ-loop
-new-requires-4 c κs = search needs
-
-cross-of-requires-2 : tie.Need-cross-of-requires-2 Inv-loop μ-loop
-cross-of-requires-2 c κs = search needs
-
-returns-4 : tie.Need-returns-4 Inv-loop μ-loop
+returns-4 : tie.Need-returns-4
 unfolding signedArea
-returns-4 c = rw (sym (summing-end (c .before .before .before .before .before .before .before .before .before .before .before .before .before .before .before .args .xs .now) (c .before .before .before .before .before .before .before .before .before .before .before .before .before .before .before .args .ys .now) (c .before .before .before .before .before .before .before .before .before .before .before .loop .inv .2) _ (c .before .before .before .before .before .before .before .new3 .ensures) (omega arith) (ap (λ (b : Bool). c .before .before .before .before .before .before .before .before .before .before .before .loop .fine && b) (c .before .before .before .before .before .before .is-in-range2 .ensures))) ∙ not-false _ (c .before .before .before .before .before .if2 .left), le-ltb (length (c .before .before .before .before .before .before .before .before .before .before .before .before .before .before .before .args .xs .now)) 3 (omega arith), c .cross-of2 .ensures, summing-closed (c .before .before .before .before .before .before .before .before .before .before .before .before .before .before .before .args .xs .now) (c .before .before .before .before .before .before .before .before .before .before .before .before .before .before .before .args .ys .now) (c .before .before .before .before .before .before .before .before .before .before .before .loop .inv .2) _ (c .before .before .before .before .before .before .before .new3 .ensures) _ (omega arith) (c .before .new4 .ensures))
+returns-4 c = rw (sym (c .before .before .all-in-range .ensures) ∙ not-false _ (c .before .if2 .left), le-ltb (length (c .before .before .before .before .before .before .before .before .before .before .before .before .before .before .before .before .args .xs .now)) 3 (omega arith), c .before .before .before .before .before .before .cross-of .ensures, summed-closed (c .before .before .before .before .before .before .before .before .before .before .before .before .before .before .before .before .args .xs .now) (c .before .before .before .before .before .before .before .before .before .before .before .before .before .before .before .before .args .ys .now) (c .before .before .before .before .before .before .before .before .before .before .before .sum-to-last .ensures .1) (c .before .before .before .before .before .before .before .before .before .before .point-at .result) (c .before .before .before .before .before .before .before .new .result) (c .before .before .before .before .before .before .before .before .before .before .before .sum-to-last .ensures .0) (c .before .before .before .before .before .before .before .before .before .before .point-at .ensures) (c .before .before .before .before .before .before .before .new .ensures))
 
 pub signed-area-of-points-spec : {M : Type 1} → statement M
 signed-area-of-points-spec =
     tie.close
     (tie.spec
-    Inv-loop
-    μ-loop
     returns
-    loop-holds
-    add-loop
-    mul-new
+    sum-by-four-requires
+    sum-to-last-requires
+    point-at-requires
     shared-slice-read-new
-    mul-new-2
     shared-slice-read-new-2
     new-requires
-    add-new
-    mul-new-3
-    shared-slice-read-new-3
-    add-new-2
-    mul-new-4
-    shared-slice-read-new-4
-    new-requires-2
-    is-in-range-requires
     cross-of-requires
-    add-i
-    loop-less
-    loop-again
-    mul-new-5
-    shared-slice-read-new-5
-    mul-new-6
-    shared-slice-read-new-6
-    new-requires-3
-    is-in-range-requires-2
+    is-in-range-requires
+    all-in-range-requires
     returns-2
     returns-3
-    shared-slice-read-new-7
-    shared-slice-read-new-8
-    new-requires-4
-    cross-of-requires-2
     returns-4)
