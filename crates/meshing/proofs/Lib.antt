@@ -25,3 +25,12 @@ pub mod Even
 pub mod WellFormed
 pub mod RectLaws
 pub mod PrismLaws
+pub mod ModelLaws
+pub mod ModelFormed
+pub mod RegionSome
+pub mod RefusalNumbers
+pub mod ModelMarks
+pub mod WholeLaws
+pub mod VolumeLaws
+pub mod WeldLaws
+pub mod Welded

@@ -259,7 +259,7 @@ appended-valid base p j m e h is at =
     valid-as (base + n) m e is at (two-known k (two .0)) (last .1) (first-appended base n used ws (two .1))
 
 -- what there is room for
-part-room : (c : Counts) (m : Mesh) (p q : Part) → fitPart c m p ≡ given q
+pub part-room : (c : Counts) (m : Mesh) (p q : Part) → fitPart c m p ≡ given q
     → (p ≡ q) × (c .nodes + length (p .xs) ≤ length (m .xs)) × (c .elements + length (p .kinds) ≤ length (m .kinds))
 unfolding fitPart
 part-room c m p q e =
