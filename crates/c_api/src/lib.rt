@@ -2,6 +2,7 @@
 mod answers;
 mod blocks;
 mod boxes;
+mod models;
 mod numbers;
 mod polygons;
 mod prisms;
@@ -9,3 +10,4 @@ mod regions;
 mod rings;
 mod solids;
 mod stacks;
+mod welds;
