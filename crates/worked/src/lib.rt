@@ -8,6 +8,8 @@ mod solids;
 
 pub use answers::box_is;
 pub use answers::check_refused;
+pub use answers::is_number;
+pub use answers::number_refused;
 pub use answers::point_is;
 pub use kinds::kind_is;
 pub use kinds::kind_unknown;
