@@ -1,86 +1,121 @@
-// Measures an embedded plate, an L of 20 by 20 micrometres and 2 thick, and prints what the calls answer.
-use openrdson_core::Bbox;
-use openrdson_core::Bounded;
-use openrdson_core::Judged;
-use openrdson_core::Measured;
-use openrdson_core::Refusal;
-use openrdson_core::Solid;
+// Stacks and meshes an embedded power switch, and prints what the calls answer.
+mod blocks;
+mod layout;
+mod mesh;
+mod regions;
+mod report;
+mod stack;
 
-// The label, then x as a whole number of the unit that is 1 / scale.
-fn print_length(label: &[u8], x: f64, scale: f64) {
-    io::write_all(1, label);
-    io::print_decimal(1, binary64::ceil_capped(x * scale - 0.5));
-    io::write_all(1, b"\n");
-}
+use geometry::Stacked;
+use geometry::assemble_stack;
+use layout::POINTS;
+use layout::POLYGONS;
+use layout::REGIONS;
+use regions::mesh_and_print;
+use report::print_outcomes;
+use report::print_refusal;
 
-fn print_refusal(label: &[u8], why: Refusal) {
-    io::write_all(1, label);
-    io::write_all(1, b"refused with ");
-    io::print_decimal(1, why.number() as u64);
-    io::write_all(1, b"\n");
-}
-
-fn print_measured(label: &[u8], measured: Measured, scale: f64) {
-    match measured {
-        Measured::Value(x) => print_length(label, x, scale),
-        Measured::Refused(why) => print_refusal(label, why),
-    }
-}
-
-fn print_judged(label: &[u8], judged: Judged) {
-    match judged {
-        Judged::Refused(why) => print_refusal(label, why),
-        Judged::Value(yes) => {
-            io::write_all(1, label);
-            if yes {
-                io::write_all(1, b"yes\n");
-            } else {
-                io::write_all(1, b"no\n");
-            }
-        }
-    }
-}
-
-fn print_bounds(bounded: Bounded) {
-    match bounded {
-        Bounded::Refused(why) => print_refusal(b"bounds: ", why),
-        Bounded::Value(b) => {
-            print_length(b"width, um: ", b.width(), 1e6);
-            print_length(b"height, um: ", b.height(), 1e6);
-        }
-    }
+// Stacks the switch into region lists.
+fn stack_switch(
+    xs: &[f64; POINTS],
+    ys: &[f64; POINTS],
+    kinds: &mut [u8; REGIONS],
+    min_x: &mut [f64; REGIONS],
+    min_y: &mut [f64; REGIONS],
+    max_x: &mut [f64; REGIONS],
+    max_y: &mut [f64; REGIONS],
+    z_bottom: &mut [f64; REGIONS],
+    z_top: &mut [f64; REGIONS],
+    starts: &mut [u32; REGIONS],
+    counts: &mut [u32; REGIONS],
+    materials: &mut [u32; REGIONS],
+    nets: &mut [u32; REGIONS],
+    polygons: &mut [u32; REGIONS],
+    outcomes: &mut [u8; POLYGONS],
+) -> Stacked {
+    assemble_stack(
+        &stack::layer_names(),
+        &stack::conducting(),
+        &stack::via(),
+        &stack::conductors(),
+        &stack::diffusions(),
+        &stack::vias(),
+        &layout::layers(),
+        &layout::nets(),
+        &layout::starts(),
+        &layout::counts(),
+        xs,
+        ys,
+        kinds,
+        min_x,
+        min_y,
+        max_x,
+        max_y,
+        z_bottom,
+        z_top,
+        starts,
+        counts,
+        materials,
+        nets,
+        polygons,
+        outcomes,
+    )
 }
 
 fn main() {
-    let xs = [0.0, 20e-6, 20e-6, 10e-6, 10e-6, 0.0];
-    let ys = [0.0, 0.0, 10e-6, 10e-6, 20e-6, 20e-6];
-    let plate = Solid::Prism {
-        z_bottom: 1e-6,
-        z_top: 3e-6,
-        start: 0,
-        count: 6,
-    };
-    print_judged(
-        b"rectangle: ",
-        openrdson_core::is_axis_aligned_rectangle(&xs, &ys),
+    let mut xs = [0.0; POINTS];
+    let mut ys = [0.0; POINTS];
+    layout::put_points(&mut xs, &mut ys);
+    let mut kinds = [0; REGIONS];
+    let mut min_x = [0.0; REGIONS];
+    let mut min_y = [0.0; REGIONS];
+    let mut max_x = [0.0; REGIONS];
+    let mut max_y = [0.0; REGIONS];
+    let mut z_bottom = [0.0; REGIONS];
+    let mut z_top = [0.0; REGIONS];
+    let mut starts = [0; REGIONS];
+    let mut counts = [0; REGIONS];
+    let mut materials = [0; REGIONS];
+    let mut nets = [0; REGIONS];
+    let mut polygons = [0; REGIONS];
+    let mut outcomes = [0; POLYGONS];
+    let stacked = stack_switch(
+        &xs,
+        &ys,
+        &mut kinds,
+        &mut min_x,
+        &mut min_y,
+        &mut max_x,
+        &mut max_y,
+        &mut z_bottom,
+        &mut z_top,
+        &mut starts,
+        &mut counts,
+        &mut materials,
+        &mut nets,
+        &mut polygons,
+        &mut outcomes,
     );
-    print_judged(b"counter-clockwise: ", openrdson_core::is_ccw(&xs, &ys));
-    print_measured(
-        b"area, um^2: ",
-        openrdson_core::polygon_area(&xs, &ys),
-        1e12,
-    );
-    print_bounds(Bbox::from_points(&xs, &ys));
-    print_measured(b"volume, um^3: ", plate.volume(&xs, &ys), 1e18);
-    let outside = Solid::Prism {
-        z_bottom: 1e-6,
-        z_top: 3e-6,
-        start: 4,
-        count: 6,
-    };
-    print_measured(
-        b"volume of a part past the end: ",
-        outside.volume(&xs, &ys),
-        1e18,
-    );
+    match stacked {
+        Stacked::Refused(why) => print_refusal(b"stacking refused with ", why),
+        Stacked::Regions(_) => {
+            print_outcomes(&outcomes);
+            mesh_and_print(
+                &xs,
+                &ys,
+                &kinds,
+                &min_x,
+                &min_y,
+                &max_x,
+                &max_y,
+                &z_bottom,
+                &z_top,
+                &starts,
+                &counts,
+                &materials,
+                &nets,
+                &polygons,
+            );
+        }
+    }
 }
