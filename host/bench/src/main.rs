@@ -1,10 +1,13 @@
 //! Times of the unchanged Rust and of Rattle on the same inputs, in turns; the best of many. Not a test.
 mod blocks;
 mod inputs;
+mod memory;
 mod meshes;
+mod models;
 mod polygons;
 mod regions;
 mod stacks;
+mod welds;
 
 use inputs::Ring;
 use oracle::core::geometry::{is_axis_aligned_rectangle, polygon_signed_area, Bbox};
@@ -12,8 +15,19 @@ use rattle::exports::*;
 use std::hint::black_box;
 use std::time::Instant;
 
+/// Without arguments, every row; `models` or `welds`, those of models, or of weld and volume, alone.
 fn main() {
+    let args: Vec<String> = std::env::args().skip(1).collect();
+    if args.first().is_some_and(|word| word == memory::MEASURE) {
+        let sizes: Vec<usize> = args[2..].iter().map(|size| size.parse().expect("a size")).collect();
+        return memory::measure(&args[1], &sizes);
+    }
     println!("{:44}{:>14}{:>14}{:>15}", "", "Rust", "Rattle", "Rust / Rattle");
+    match args.first().map(String::as_str) {
+        Some("models") => return models::rows(),
+        Some("welds") => return welds::rows(),
+        _ => {}
+    }
     let circle = inputs::circle(512);
     let corners = inputs::on_four_corners(512);
     area("signed area, circle of 512 points", &circle);
@@ -23,6 +37,8 @@ fn main() {
     roots("square root, of a million (Rust: hardware)", &inputs::values(1_000_000));
     polygons::rows();
     meshes::rows();
+    models::rows();
+    welds::rows();
     regions::rows();
     stacks::rows();
     blocks::rows();

@@ -1,10 +1,13 @@
 //! What is expected of a case: a refusal of document 01, or else what the unchanged Rust answers. Of a call on name
 //! blocks it is document 01's answer, held to the Rust's.
+pub mod layouts;
 mod lookups;
 pub mod meshes;
+pub mod models;
 pub mod polygons;
 mod regions;
 pub mod stacks;
+pub mod welds;
 
 use crate::call::Call::*;
 use crate::case::{Answer, Case};

@@ -3,11 +3,14 @@ pub mod blocks;
 pub mod call;
 pub mod case;
 pub mod expected;
+pub mod layouts;
 pub mod meshes;
+pub mod models;
 pub mod paper;
 pub mod polygons;
 pub mod regions;
 pub mod stacks;
+pub mod welds;
 
 mod axes;
 mod boxes;

@@ -1,6 +1,6 @@
 //! Jobs of the calls that mesh a region: what is lent, and what is given.
 pub mod boxes;
-mod lists;
+pub mod lists;
 pub mod prisms;
 
 pub use lists::lengths;
@@ -56,6 +56,8 @@ pub enum Fault {
     PointLists,
     NodeCount,
     ElementCount,
+    /// Of a model's region, which is neither a box nor a prism.
+    NoKind,
     Material,
     Bounds,
     Extent,
@@ -123,11 +125,12 @@ pub enum Kind {
 use Fault::*;
 use Kind::*;
 
-pub const FAULTS: [(Fault, u32, &str); 25] = [
+pub const FAULTS: [(Fault, u32, &str); 26] = [
     (Lists, 16, "lists"),
     (PointLists, 16, "point lists"),
     (NodeCount, 15, "count of nodes"),
     (ElementCount, 15, "count of elements"),
+    (NoKind, 15, "kind"),
     (Material, 15, "material"),
     (Bounds, 1, "bounds"),
     (Extent, 5, "extent"),
@@ -195,6 +198,14 @@ const PRISM_KINDS: [Kind; 16] = [
     Rectilinear, Clipped, Stalled, Cleaned, CleanedAgain, AgainTooFew, LevelDropped, ThinBand, EndOnMiddle, FlatQuad,
     MinusZero, Amid, MostPoints, Appended, ExactlyFull, Large,
 ];
+
+impl Given {
+    /// Whether the nodes and elements are the same, floats by their bits.
+    pub fn same(&self, other: &Given) -> bool {
+        let bits = |nodes: &[[f64; 3]]| nodes.iter().map(|node| node.map(f64::to_bits)).collect::<Vec<_>>();
+        self.kinds == other.kinds && self.places == other.places && bits(&self.nodes) == bits(&other.nodes)
+    }
+}
 
 impl Fault {
     /// The refusal's number.

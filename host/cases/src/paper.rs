@@ -2,9 +2,11 @@
 pub mod blocks;
 pub mod cells;
 pub mod meshes;
+pub mod models;
 pub mod polygons;
 mod regions;
 pub mod stacks;
+pub mod welds;
 
 use crate::call::Call::*;
 use crate::case::Case;

@@ -1,22 +1,30 @@
 //! Runs seeded cases of every call on the unchanged Rust and on Rattle, and compares the answers bit for bit.
 mod args;
 mod compared;
+mod layouts;
 mod meshes;
+mod models;
 mod polygons;
 mod stacks;
 mod tally;
+mod welds;
 
 use args::Args;
 use cases::call::CALLS;
 use cases::meshes::Call::{MeshBox, MeshBoxRegion, MeshPrism, MeshPrismRegion};
+use cases::models::Call::{MeshModel, MeshModelWithOptions};
 use cases::polygons::Call::{DedupRing, TriangulatePolygon};
+use cases::welds::Call::{MeshVolume, WeldNodes};
 use compared::Compared;
+use layouts::Layouts;
 use meshes::Meshes;
+use models::Models;
 use polygons::Polygons;
 use stacks::Stacks;
 use std::process::ExitCode;
 use std::time::Instant;
 use tally::Tally;
+use welds::Welds;
 
 /// Cases a call in one round of the long run.
 const ROUND: u64 = 2000;
@@ -48,6 +56,13 @@ fn named(args: &Args) -> Result<Calls, String> {
     for call in [MeshBox, MeshPrism, MeshBoxRegion, MeshPrismRegion] {
         calls.push(Box::new(Meshes::new(call)));
     }
+    for call in [MeshModel, MeshModelWithOptions] {
+        calls.push(Box::new(Models::new(call)));
+    }
+    for call in [WeldNodes, MeshVolume] {
+        calls.push(Box::new(Welds::new(call)));
+    }
+    calls.push(Box::new(Layouts::default()));
     if let Some(name) = &args.call {
         calls.retain(|call| call.name() == name);
         if calls.is_empty() {

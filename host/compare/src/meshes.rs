@@ -125,22 +125,26 @@ impl fmt::Display for Shown<'_> {
         show_list(f, "point ys", &job.ys)?;
         writeln!(f, "  material {} region {} net and polygon {:?}", job.material, job.region, job.labels)?;
         writeln!(f, "  counts {:?} lengths {:?}", job.counts, job.lengths)?;
-        let (expected, said) = (Left::expected(job, &expected::answer(job)), answer(job));
-        for (who, left) in [("expected", &expected), ("Rattle  ", &said)] {
-            writeln!(f, "  {who} status {} counts {:?}", left.status, left.counts)?;
-        }
-        let bits = |list: &[f64]| list.iter().map(|x| x.to_bits()).collect::<Vec<_>>();
-        for ((a, b), name) in expected.coordinates.iter().zip(&said.coordinates).zip(["xs", "ys", "zs"]) {
-            show_unlike(f, name, &bits(a), &bits(b))?;
-        }
-        show_unlike(f, "kinds", &expected.kinds, &said.kinds)?;
-        show_unlike(f, "places", &expected.places, &said.places)?;
-        show_unlike(f, "regions", &expected.regions, &said.regions)
+        show_unlike_meshes(f, &Left::expected(job, &expected::answer(job)), &answer(job))
     }
 }
 
+/// What each side answers, and where their lists differ.
+pub fn show_unlike_meshes(f: &mut fmt::Formatter, expected: &Left, said: &Left) -> fmt::Result {
+    for (who, left) in [("expected", expected), ("Rattle  ", said)] {
+        writeln!(f, "  {who} status {} counts {:?}", left.status, left.counts)?;
+    }
+    let bits = |list: &[f64]| list.iter().map(|x| x.to_bits()).collect::<Vec<_>>();
+    for ((a, b), name) in expected.coordinates.iter().zip(&said.coordinates).zip(["xs", "ys", "zs"]) {
+        show_unlike(f, name, &bits(a), &bits(b))?;
+    }
+    show_unlike(f, "kinds", &expected.kinds, &said.kinds)?;
+    show_unlike(f, "places", &expected.places, &said.places)?;
+    show_unlike(f, "regions", &expected.regions, &said.regions)
+}
+
 /// The first entries that differ.
-fn show_unlike<T: PartialEq + fmt::LowerHex>(f: &mut fmt::Formatter, name: &str, expected: &[T], said: &[T]) -> fmt::Result {
+pub fn show_unlike<T: PartialEq + fmt::LowerHex>(f: &mut fmt::Formatter, name: &str, expected: &[T], said: &[T]) -> fmt::Result {
     let unlike = expected.iter().zip(said).enumerate().filter(|(_, (a, b))| a != b);
     for (place, (a, b)) in unlike.take(ENTRIES) {
         writeln!(f, "  {name}[{place}] expected {a:x} Rattle {b:x}")?;

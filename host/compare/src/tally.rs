@@ -145,7 +145,7 @@ pub fn show_bytes(f: &mut fmt::Formatter, bytes: &[u8]) -> fmt::Result {
 }
 
 /// Past 64 regions only the lengths of the lists are shown.
-fn show_regions(f: &mut fmt::Formatter, regions: &Regions) -> fmt::Result {
+pub fn show_regions(f: &mut fmt::Formatter, regions: &Regions) -> fmt::Result {
     let lengths = regions.lengths();
     if lengths.iter().any(|length| *length > 0) {
         writeln!(f, "  regions: {lengths:?}")?;

@@ -2,10 +2,12 @@
 pub mod exports;
 mod lookups;
 pub mod meshes;
+pub mod models;
 mod outputs;
 pub mod polygons;
 mod regions;
 pub mod stacks;
+pub mod welds;
 
 use cases::call::Call::*;
 use cases::case::{Answer, Case};

@@ -39,14 +39,14 @@ mesh_calls! {
 }
 
 /// Entries past the end of each list, which the call is not lent.
-const PAST: usize = 2;
+pub const PAST: usize = 2;
 
 /// What is in the entry of this place before the call, and past the end of each list.
 fn word(place: usize) -> u64 {
     0xa5a5_a5a5_a5a5_a5a5 ^ (place as u64).wrapping_mul(0x0100_0001_0001_0101)
 }
 
-fn list<T>(length: usize, entry: impl Fn(u64) -> T) -> Vec<T> {
+pub fn list<T>(length: usize, entry: impl Fn(u64) -> T) -> Vec<T> {
     (0..length + PAST).map(|place| entry(word(place))).collect()
 }
 
@@ -63,10 +63,14 @@ pub struct Left {
 impl Left {
     /// Before the call.
     pub fn before(job: &Job) -> Left {
-        let [xs, ys, zs, kinds, places, regions] = job.lengths;
+        Left::of(job.counts, job.lengths)
+    }
+
+    /// The same of a mesh with these counts, and lists of these lengths.
+    pub fn of(counts: [usize; 2], [xs, ys, zs, kinds, places, regions]: [usize; 6]) -> Left {
         Left {
             status: 0,
-            counts: job.counts,
+            counts,
             coordinates: [xs, ys, zs].map(|length| list(length, f64::from_bits)),
             kinds: list(kinds, |word| word as u8),
             places: list(places, |word| word as u32),
@@ -84,16 +88,21 @@ impl Left {
                 return after;
             }
         };
-        let [nodes, elements] = job.counts;
+        after.append(given, &vec![job.region; given.kinds.len()]);
+        after
+    }
+
+    /// Nodes and elements, with the regions' numbers, after those that the counts tell of.
+    pub fn append(&mut self, given: &Given, regions: &[u32]) {
+        let [nodes, elements] = self.counts;
         for (i, node) in given.nodes.iter().enumerate() {
-            after.coordinates.iter_mut().zip(node).for_each(|(list, x)| list[nodes + i] = *x);
+            self.coordinates.iter_mut().zip(node).for_each(|(list, x)| list[nodes + i] = *x);
         }
         let more = given.kinds.len();
-        after.kinds[elements..elements + more].copy_from_slice(&given.kinds);
-        after.places[8 * elements..8 * (elements + more)].copy_from_slice(&given.places);
-        after.regions[elements..elements + more].fill(job.region);
-        after.counts = [nodes + given.nodes.len(), elements + more];
-        after
+        self.kinds[elements..elements + more].copy_from_slice(&given.kinds);
+        self.places[8 * elements..8 * (elements + more)].copy_from_slice(&given.places);
+        self.regions[elements..elements + more].copy_from_slice(regions);
+        self.counts = [nodes + given.nodes.len(), elements + more];
     }
 
     /// Whether every entry is the same, floats by their bits.

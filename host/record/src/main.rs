@@ -1,10 +1,11 @@
 //! Writes the expected answers that crates/replay, crates/replay_blocks, crates/replay_regions and crates/replay_meshes
-//! replay; with --check it only says whether the files are the same.
+//! replay, and what crates/sample prints; with --check it only says whether the files are the same.
 mod blocks;
 mod meshes;
 mod numbers;
 mod regions;
 mod sample;
+mod switch;
 
 use sample::Sample;
 use std::path::Path;
@@ -17,6 +18,7 @@ fn main() -> ExitCode {
         ("crates/replay_blocks/stdin", blocks::taken()),
         ("crates/replay_regions/stdin", regions::taken()),
         ("crates/replay_meshes/stdin", meshes::taken()),
+        ("crates/sample/stdout", switch::printed()),
     ];
     let mut same = true;
     for (name, sample) in files {

@@ -24,14 +24,14 @@ pub fn answer(job: &Job) -> Result<Given, u32> {
 }
 
 /// What the Rust is given.
-struct Inputs {
-    layout: LayoutIR,
-    stack: TechStack,
-    map: LayerMap,
+pub struct Inputs {
+    pub layout: LayoutIR,
+    pub stack: TechStack,
+    pub map: LayerMap,
 }
 
 /// Of a job that is accepted; none where a block was made by damage, or a name is not UTF-8.
-fn inputs(job: &Job) -> Option<Inputs> {
+pub fn inputs(job: &Job) -> Option<Inputs> {
     let blocks: Vec<&Rows> = job.blocks.iter().map(|lent| lent.rows.as_ref()).collect::<Option<_>>()?;
     let polygon = |i: usize| LayoutPolygon {
         layer: LayerKey::new(job.layers[i], 0),

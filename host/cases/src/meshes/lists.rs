@@ -31,31 +31,36 @@ pub fn room(r: &mut Random, [nodes, elements]: [usize; 2], more: Option<[usize; 
 }
 
 /// The mesh has about as many nodes, or elements, as leave room for these, and its lists end about there.
-pub fn near_most(r: &mut Random, job: &mut Job, more: [usize; 2]) {
+pub fn near_most(r: &mut Random, counts: &mut [usize; 2], lists: &mut [usize; 6], more: [usize; 2]) {
     let place = r.below(2);
-    job.counts[place] = MESH_MOST - more[place] + r.below(3) - 1;
-    let mut room = [job.lengths[0], job.lengths[3]];
+    counts[place] = MESH_MOST - more[place] + r.below(3) - 1;
+    let mut room = [lists[0], lists[3]];
     room[place] = MESH_MOST + r.below(3) - 1;
-    job.lengths = lengths(room[0], room[1]);
+    *lists = lengths(room[0], room[1]);
 }
 
 /// Each damage with these odds: of the lists, the counts and the material.
 pub fn spoil(r: &mut Random, job: &mut Job, odds: usize) {
-    if r.one_in(odds) {
-        unequal(r, &mut job.lengths);
-    }
-    if r.one_in(odds) {
-        let place = r.below(2);
-        let length = job.lengths[3 * place];
-        job.counts[place] = r.pick(&[length, length + 1, length + 8, usize::MAX, 1 << 63, 1 << 32]);
-    }
+    spoil_mesh(r, &mut job.counts, &mut job.lengths, odds);
     if r.one_in(odds) {
         job.material = extrusions::material(r).max(r.pick(&[0, 768, 769]));
     }
 }
 
+/// The same of the lists and the counts.
+pub fn spoil_mesh(r: &mut Random, counts: &mut [usize; 2], lists: &mut [usize; 6], odds: usize) {
+    if r.one_in(odds) {
+        unequal(r, lists);
+    }
+    if r.one_in(odds) {
+        let place = r.below(2);
+        let length = lists[3 * place];
+        counts[place] = r.pick(&[length, length + 1, length + 8, usize::MAX, 1 << 63, 1 << 32]);
+    }
+}
+
 /// One list is longer or shorter than it ought to be.
-fn unequal(r: &mut Random, lengths: &mut [usize; 6]) {
+pub fn unequal(r: &mut Random, lengths: &mut [usize; 6]) {
     let place = r.below(6);
     let by = if place == 4 { r.pick(&[1, 4, 7, 8, 16]) } else { r.pick(&[1, 1, 2, 9]) };
     lengths[place] = if r.one_in(2) { lengths[place] + by } else { lengths[place].saturating_sub(by) };

@@ -1,7 +1,7 @@
 //! Jobs on a prism.
 mod by_hand;
-mod draw;
-mod rings;
+pub mod draw;
+pub mod rings;
 
 use super::{lengths, Call, Job, Solid};
 use crate::expected::meshes::prism_sizes;

@@ -18,15 +18,19 @@ fn hold(tests: impl IntoIterator<Item = (Fault, bool)>) -> Result<(), Fault> {
     }
 }
 
+/// "16 parallel lists of unequal length, or node places not eight times the kinds", of these lengths.
+pub fn is_parallel([xs, ys, zs, kinds, places, regions]: &[usize; 6]) -> bool {
+    xs == ys && xs == zs && kinds == regions && *places == 8 * kinds
+}
+
 /// "16, 15 for counts or material"; 16 speaks of the point lists too.
 fn lists(job: &Job) -> Result<(), Fault> {
-    let [xs, ys, zs, kinds, places, regions] = job.lengths;
     let [nodes, elements] = job.counts;
     hold([
-        (Lists, xs == ys && xs == zs && kinds == regions && places == 8 * kinds),
+        (Lists, is_parallel(&job.lengths)),
         (PointLists, job.xs.len() == job.ys.len()),
-        (NodeCount, nodes <= xs),
-        (ElementCount, elements <= kinds),
+        (NodeCount, nodes <= job.lengths[0]),
+        (ElementCount, elements <= job.lengths[3]),
         (Material, job.material <= MATERIAL_MOST),
     ])
 }

@@ -21,7 +21,7 @@ pub fn meshed(job: &Job, bounds: &[f64; 6]) -> Result<(Mesh, Vec<Kind>), Fault> 
 }
 
 /// The refusal that the Rust's text stands for.
-fn fault_of(why: &str) -> Fault {
+pub fn fault_of(why: &str) -> Fault {
     match why {
         _ if why.contains("degenerate box") => Fault::Extent,
         _ if why.contains("must be positive") => Fault::NotPositive,

@@ -42,7 +42,7 @@ pub fn sizes(job: &Job) -> Option<[usize; 2]> {
 }
 
 /// The refusal that the Rust's text stands for; "odd crossing count" is none of these.
-fn fault_of(why: &str) -> Fault {
+pub fn fault_of(why: &str) -> Fault {
     match why {
         _ if why.contains("degenerate prism") => Fault::Upside,
         _ if why.contains("fewer than 3") => Fault::TooFew,

@@ -28,7 +28,7 @@ pub fn job(call: Call, seed: u64, number: u64) -> Job {
     let most = if large { LARGE } else { NODES };
     job.lengths = lists::room(r, job.counts, (nodes <= most).then(|| sizes(&bounds, &cells)));
     if r.one_in(1500) && nodes <= NODES {
-        lists::near_most(r, &mut job, sizes(&bounds, &cells));
+        lists::near_most(r, &mut job.counts, &mut job.lengths, sizes(&bounds, &cells));
     }
     let odds = if r.one_in(8) { 3 } else { 24 };
     lists::spoil(r, &mut job, odds);

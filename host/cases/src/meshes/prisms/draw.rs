@@ -18,7 +18,7 @@ pub fn job(call: Call, seed: u64, number: u64) -> Job {
     (job.material, job.region, job.counts) = (r.below(769) as u32, lists::region(r), lists::counts(r));
     job.lengths = lists::room(r, job.counts, more);
     match more {
-        Some(more) if r.one_in(1500) => lists::near_most(r, &mut job, more),
+        Some(more) if r.one_in(1500) => lists::near_most(r, &mut job.counts, &mut job.lengths, more),
         _ => {}
     }
     lists::spoil(r, &mut job, odds);
@@ -59,7 +59,7 @@ fn on_long_lists(r: &mut Random, call: Call) -> Job {
 }
 
 /// The top is above the bottom, but for the damage.
-fn heights(r: &mut Random, odds: usize) -> [f64; 2] {
+pub fn heights(r: &mut Random, odds: usize) -> [f64; 2] {
     let [a, b] = solids::heights(r);
     let mut heights = if a < b { [a, b] } else if b < a { [b, a] } else { [a, (a + 1.0).min(MOST)] };
     if r.one_in(odds) {
