@@ -1,4 +1,4 @@
-// Cells, coordinates, and the box 0..2 by 0..1 by 0..1 in cells of 1.
+// Cells, coordinates, the default cell sizes, and the box 0..2 by 0..1 by 0..1 in cells of 1.
 mod answers;
 
 use answers::cells_refused;
@@ -66,7 +66,15 @@ fn hexes() {
     expect((kinds[1] == 1) & (regions[1] == 7));
 }
 
+// 1e-6 across and 0.1e-6 in height.
+fn default_sizes() {
+    let config = MeshConfig::default();
+    expect(config.lateral_cell == 1e-6);
+    expect(config.z_cell == 0.1e-6);
+}
+
 fn main() {
     cells();
+    default_sizes();
     hexes();
 }
