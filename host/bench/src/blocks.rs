@@ -1,14 +1,13 @@
 //! Lookups: the Rust asks its maps and lists, made before; Rattle reads and checks the blocks in each call.
-use crate::{alone, row, Effort};
+use crate::row::{effort, plain, side, Effort, Row, Sides};
 use cases::blocks::{Layer, Rows, Via};
 use oracle::core::layout::LayoutIR;
 use oracle::core::tech::{self, Conductor, Diffusion, LayerMap, TechStack};
 use oracle::geometry::{assemble_stack, reach};
-use rattle::exports::*;
+use ::rattle::exports::*;
 use std::collections::BTreeMap;
 use std::hint::black_box;
-
-const ROUNDS: usize = 100;
+use std::sync::Arc;
 
 /// The same layers in the form of each side: so many rows in each of the six blocks.
 pub struct Layers {
@@ -18,6 +17,8 @@ pub struct Layers {
     /// Layer names, conducting, via, conductors, diffusions, vias.
     pub blocks: [Vec<u8>; 6],
     pub numbers: Vec<i16>,
+    /// The Rust's table of material names, made by `assemble_stack`.
+    materials: Vec<String>,
     logical: Vec<String>,
     conductors: Vec<String>,
     vias: Vec<String>,
@@ -47,7 +48,8 @@ pub fn layers(n: usize) -> Layers {
     let map = LayerMap { conducting: pairs(&logical, &conductors), via: pairs(&logical_vias, &vias) };
     let layout = LayoutIR { layer_names, ..LayoutIR::default() };
     let blocks = blocks(&layout, &map, &stack);
-    Layers { layout, map, stack, blocks, numbers, logical, conductors, vias }
+    let (model, _) = assemble_stack(&LayoutIR::default(), &stack, &LayerMap::default());
+    Layers { layout, map, stack, blocks, numbers, materials: model.material_names, logical, conductors, vias }
 }
 
 /// Via i goes from conductor i to the next.
@@ -80,48 +82,92 @@ fn blocks(layout: &LayoutIR, map: &LayerMap, stack: &TechStack) -> [Vec<u8>; 6] 
     rows.map(|rows| rows.bytes())
 }
 
-pub fn rows() {
-    for n in [16, 256] {
-        let all = layers(n);
-        look_up(n, &all);
-        physical_name(n, &all);
-        layer_name(n, &all);
-        stack_layer(n, &all);
-        via_layers(n, &all);
-        material_number(n, &all);
-        check_blocks(n, &all);
-        is_marker(n, &all);
+pub fn rows() -> Vec<Row> {
+    [16, 256].into_iter().flat_map(rows_of).collect()
+}
+
+fn rows_of(n: usize) -> Vec<Row> {
+    let asking = Effort { answers: n, ..if n == 16 { effort(1000, 20) } else { effort(100, 1) } };
+    let [maps, block, blocks] = ["maps", "block", "blocks"].map(|word| format!("{word} of {n} rows"));
+    vec![
+        Row::new("look_up", &maps, asking, move || asked(n, |all| &all.logical, rust::look_up, rattle::look_up)),
+        Row::new("physical_name", &maps, asking, move || asked(n, |all| &all.logical, rust::physical_name, rattle::physical_name)),
+        Row::new("layer_name", &block, asking, move || asked(n, |all| &all.numbers, rust::layer_name, rattle::layer_name)),
+        Row::new("stack_layer", &block, asking, move || asked(n, |all| &all.conductors, rust::stack_layer, rattle::stack_layer)),
+        Row::new("via_layers", &block, asking, move || asked(n, |all| &all.vias, rust::via_layers, rattle::via_layers)),
+        Row::new("material_number, conductor", &blocks, asking, move || asked(n, |all| &all.conductors, rust::material_number, rattle::material_number)),
+        Row::new("material_number, via", &blocks, asking, move || asked(n, |all| &all.vias, rust::material_number, rattle::material_number)),
+        Row::new("check_blocks (the Rust has none)", &format!("six {blocks}"), effort(200, 20), move || check_blocks(n)),
+        Row::new("is_marker", &format!("{n} names"), asking, move || asked(n, |all| &all.logical, rust::is_marker, rattle::is_marker)),
+    ]
+}
+
+/// Each of the names is asked for.
+fn asked<T: 'static>(
+    n: usize, names: fn(&Layers) -> &Vec<T>, rust: impl Fn(&Layers, &T) + Send + 'static, rattle: impl Fn(&Layers, &T) + Send + 'static,
+) -> Sides {
+    let rust = move |all: &Layers| black_box(names(all)).iter().for_each(|name| rust(black_box(all), name));
+    let rattle = move |all: &Layers| black_box(names(all)).iter().for_each(|name| rattle(black_box(all), name));
+    plain(layers(n), rust, rattle)
+}
+
+fn check_blocks(n: usize) -> Sides {
+    let rattle = |all: &Layers, (): &mut ()| {
+        let [a, b, c, d, e, f] = all.blocks.each_ref().map(|block| (block.as_ptr(), block.len()));
+        let status = unsafe { openrdson_check_blocks(a.0, a.1, b.0, b.1, c.0, c.1, d.0, d.1, e.0, e.1, f.0, f.1) };
+        assert!(black_box(status) == 0);
+    };
+    [None, side(&Arc::new(layers(n)), |_| (), rattle)]
+}
+
+/// The Rust's lookups.
+mod rust {
+    use super::*;
+
+    pub fn look_up(all: &Layers, name: &String) {
+        black_box(all.map.conducting.get(name).or_else(|| all.map.via.get(name)).is_some());
+    }
+
+    pub fn physical_name(all: &Layers, name: &String) {
+        black_box(all.map.conducting.get(name).or_else(|| all.map.via.get(name)));
+    }
+
+    pub fn layer_name(all: &Layers, number: &i16) {
+        black_box(all.layout.layer_name(*number));
+    }
+
+    pub fn stack_layer(all: &Layers, name: &String) {
+        black_box(all.stack.conductor(name).map(|layer| (layer.height, layer.thickness)));
+    }
+
+    pub fn via_layers(all: &Layers, name: &String) {
+        black_box(all.stack.via(name).map(|via| (&via.bottom_layer, &via.top_layer)));
+    }
+
+    pub fn material_number(all: &Layers, name: &String) {
+        let place = all.materials.iter().position(|material| material == name);
+        black_box(place.map(|i| (i + 1) as u32));
+    }
+
+    pub fn is_marker(_: &Layers, name: &String) {
+        black_box(reach::is_marker(black_box(name)));
     }
 }
 
-/// Asks for each of the names on both sides, and prints the time for one.
-fn asked<T>(name: String, asked: &[T], rust: impl Fn(&T), rattle: impl Fn(&T)) {
-    let effort = Effort { rounds: ROUNDS, calls: 1, values: asked.len() };
-    row(&name, effort, || black_box(asked).iter().for_each(&rust), || black_box(asked).iter().for_each(&rattle));
-}
+/// Rattle's.
+mod rattle {
+    use super::*;
 
-fn look_up(n: usize, all: &Layers) {
-    let [_, conducting, via, ..] = &all.blocks;
-    let rust = |name: &String| {
-        let map = black_box(&all.map);
-        black_box(map.conducting.get(name).or_else(|| map.via.get(name)).is_some());
-    };
-    let rattle = |name: &String| {
+    pub fn look_up(all: &Layers, name: &String) {
+        let [_, conducting, via, ..] = &all.blocks;
         let mut found = false;
         let (c, v) = (conducting.as_ptr(), via.as_ptr());
         unsafe { openrdson_look_up(c, conducting.len(), v, via.len(), name.as_ptr(), name.len(), &mut found) };
         assert!(black_box(found));
-    };
-    asked(format!("look_up, maps of {n}"), &all.logical, rust, rattle);
-}
+    }
 
-fn physical_name(n: usize, all: &Layers) {
-    let [_, conducting, via, ..] = &all.blocks;
-    let rust = |name: &String| {
-        let map = black_box(&all.map);
-        black_box(map.conducting.get(name).or_else(|| map.via.get(name)));
-    };
-    let rattle = |name: &String| {
+    pub fn physical_name(all: &Layers, name: &String) {
+        let [_, conducting, via, ..] = &all.blocks;
         let (c, v) = (conducting.as_ptr(), via.as_ptr());
         let (mut block, mut start, mut length) = (0, 0, 0);
         let at = (&mut block, &mut start, &mut length);
@@ -129,29 +175,17 @@ fn physical_name(n: usize, all: &Layers) {
             openrdson_physical_name(c, conducting.len(), v, via.len(), name.as_ptr(), name.len(), at.0, at.1, at.2)
         };
         assert!(black_box((block, start, length)).0 == 1);
-    };
-    asked(format!("physical_name, maps of {n}"), &all.logical, rust, rattle);
-}
+    }
 
-fn layer_name(n: usize, all: &Layers) {
-    let names = &all.blocks[0];
-    let rust = |number: &i16| {
-        black_box(black_box(&all.layout).layer_name(*number));
-    };
-    let rattle = |number: &i16| {
+    pub fn layer_name(all: &Layers, number: &i16) {
+        let names = &all.blocks[0];
         let (mut start, mut length) = (0, 0);
         unsafe { openrdson_layer_name(names.as_ptr(), names.len(), *number, &mut start, &mut length) };
         assert!(black_box((start, length)).1 > 0);
-    };
-    asked(format!("layer_name, block of {n}"), &all.numbers, rust, rattle);
-}
+    }
 
-fn stack_layer(n: usize, all: &Layers) {
-    let block = &all.blocks[3];
-    let rust = |name: &String| {
-        black_box(black_box(&all.stack).conductor(name).map(|layer| (layer.height, layer.thickness)));
-    };
-    let rattle = |name: &String| {
+    pub fn stack_layer(all: &Layers, name: &String) {
+        let block = &all.blocks[3];
         let (mut found, mut has, mut figures) = (false, [false; 2], [0.0; 2]);
         let [has_height, has_thickness] = &mut has;
         let [height, thickness] = &mut figures;
@@ -162,58 +196,26 @@ fn stack_layer(n: usize, all: &Layers) {
             )
         };
         assert!(black_box((found, has, figures)).0);
-    };
-    asked(format!("stack_layer, block of {n}"), &all.conductors, rust, rattle);
-}
+    }
 
-fn via_layers(n: usize, all: &Layers) {
-    let block = &all.blocks[5];
-    let rust = |name: &String| {
-        black_box(black_box(&all.stack).via(name).map(|via| (&via.bottom_layer, &via.top_layer)));
-    };
-    let rattle = |name: &String| {
+    pub fn via_layers(all: &Layers, name: &String) {
+        let block = &all.blocks[5];
         let (mut found, mut places) = (false, [0; 4]);
         let [a, b, c, d] = &mut places;
         unsafe { openrdson_via_layers(block.as_ptr(), block.len(), name.as_ptr(), name.len(), &mut found, a, b, c, d) };
         assert!(black_box((found, places)).0);
-    };
-    asked(format!("via_layers, block of {n}"), &all.vias, rust, rattle);
-}
+    }
 
-/// The Rust's table of material names is made before, by `assemble_stack`.
-fn material_number(n: usize, all: &Layers) {
-    let [.., conductors, diffusions, vias] = &all.blocks;
-    let (model, _) = assemble_stack(&LayoutIR::default(), &all.stack, &LayerMap::default());
-    let rust = |name: &String| {
-        let place = black_box(&model.material_names).iter().position(|n| n == name);
-        black_box(place.map(|i| (i + 1) as u32));
-    };
-    let rattle = |name: &String| {
+    pub fn material_number(all: &Layers, name: &String) {
+        let [.., conductors, diffusions, vias] = &all.blocks;
         let mut material = 0;
         let [a, b, c] = [conductors, diffusions, vias].map(|block| block.as_ptr());
         let [na, nb, nc] = [conductors, diffusions, vias].map(Vec::len);
         unsafe { openrdson_material_number(a, na, b, nb, c, nc, name.as_ptr(), name.len(), &mut material) };
         assert!(black_box(material) > 0);
-    };
-    asked(format!("material_number, conductor, blocks of {n}"), &all.conductors, &rust, &rattle);
-    asked(format!("material_number, via, blocks of {n}"), &all.vias, &rust, &rattle);
-}
+    }
 
-fn check_blocks(n: usize, all: &Layers) {
-    let [a, b, c, d, e, f] = all.blocks.each_ref().map(|block| (block.as_ptr(), block.len()));
-    let rattle = || {
-        let status = unsafe { openrdson_check_blocks(a.0, a.1, b.0, b.1, c.0, c.1, d.0, d.1, e.0, e.1, f.0, f.1) };
-        assert!(black_box(status) == 0);
-    };
-    alone(&format!("check_blocks, six of {n}"), Effort { rounds: ROUNDS, calls: 20, values: 1 }, rattle);
-}
-
-fn is_marker(n: usize, all: &Layers) {
-    let rust = |name: &String| {
-        black_box(reach::is_marker(black_box(name)));
-    };
-    let rattle = |name: &String| {
+    pub fn is_marker(_: &Layers, name: &String) {
         black_box(unsafe { openrdson_is_marker(name.as_ptr(), name.len()) });
-    };
-    asked(format!("is_marker, {n} names"), &all.logical, rust, rattle);
+    }
 }

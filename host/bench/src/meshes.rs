@@ -1,69 +1,78 @@
-//! Meshing boxes and prisms. The Rust is handed a region that was made before, and makes the lists of its mesh; Rattle is lent them, and so is what fills
-//! the same six lists with one number each.
-use crate::{row, Effort};
+//! Meshing boxes and prisms. The Rust is handed a region that was made before.
+use crate::row::{effort, lent, side, Effort, Row, Sides};
 use cases::expected::meshes::{answer, region};
 use cases::meshes::{boxes, prisms, Call, Job};
 use cases::polygons::shapes;
+use oracle::core::geometry::SolidRegion;
 use oracle::meshing::{mesh_region, MeshConfig};
 use rattle::meshes::{call, Left};
-use std::cell::RefCell;
 use std::hint::black_box;
+use std::sync::Arc;
 
-const LONG: Effort = Effort { rounds: 30, calls: 1, values: 1 };
-const SOME: Effort = Effort { rounds: 200, calls: 1, values: 1 };
-const FEW: Effort = Effort { rounds: 200, calls: 200, values: 1 };
+const LONG: Effort = effort(40, 1);
+const SOME: Effort = effort(300, 1);
+const FEW: Effort = effort(1000, 100);
 
-pub fn rows() {
-    cube("1,000 nodes", 9, Effort { rounds: 200, calls: 20, values: 1 });
-    cube("a million nodes", 99, Effort { rounds: 12, calls: 1, values: 1 });
-    prism("L", FEW, &shapes::L);
-    prism("dart (clipped)", FEW, &shapes::DART);
-    prism("keyhole of 12", FEW, &shapes::KEYHOLE);
-    prism("rectilinear of 16", FEW, &shapes::CROSSED);
-    prism("circle of 512 (clipped)", SOME, &shapes::circle(512));
-    prism("round keyhole of 502", SOME, &shapes::round_keyhole(250));
-    prism("staircase of 512", SOME, &shapes::staircase(512));
-    let combs = [("square comb", shapes::square_comb(512)), ("dense comb", shapes::dense_comb(512))];
-    for (name, comb) in combs {
-        prism(&format!("{name} of 512, right"), SOME, &comb);
-        prism(&format!("{name} of 512, left"), SOME, &shapes::mirrored(comb));
-    }
-    prism("zigzag of 512, right", LONG, &shapes::zigzag(512, |i| i as f64));
-    prism("zigzag of 512, left", LONG, &shapes::zigzag(512, |i| -(i as f64)));
+pub fn rows() -> Vec<Row> {
+    let mut rows = vec![
+        Row::new("mesh_box", "1,000 nodes", effort(400, 20), || beside_the_rust(cube(9))),
+        Row::new("mesh_box (Rust: plain filling of its lists)", "1,000 nodes", effort(400, 20), || beside_filling(cube(9))),
+        Row::new("mesh_box", "a million nodes", effort(15, 1), || beside_the_rust(cube(99))),
+        Row::new("mesh_box (Rust: plain filling of its lists)", "a million nodes", effort(100, 1), || beside_filling(cube(99))),
+    ];
+    let prism = |(size, effort, ring): Prism| {
+        Row::new("mesh_prism", size, effort, move || beside_the_rust(prisms::filling(Call::MeshPrism, &ring())))
+    };
+    rows.extend(PRISMS.into_iter().map(prism));
+    rows
+}
+
+type Prism = (&'static str, Effort, fn() -> Vec<(f64, f64)>);
+
+/// A stalled one is meshed by the scanline after clipping has refused it.
+const PRISMS: [Prism; 15] = [
+    ("L (rectilinear)", FEW, || shapes::L.to_vec()),
+    ("dart (clipped)", FEW, || shapes::DART.to_vec()),
+    ("keyhole of 12 (rectilinear)", FEW, || shapes::KEYHOLE.to_vec()),
+    ("16 points (rectilinear)", FEW, || shapes::CROSSED.to_vec()),
+    ("circle of 512 (clipped)", SOME, || shapes::circle(512)),
+    ("round keyhole of 502 (stalled)", SOME, || shapes::round_keyhole(250)),
+    ("staircase of 512 (rectilinear)", SOME, || shapes::staircase(512)),
+    ("square comb of 512, right (rectilinear)", SOME, || shapes::square_comb(512)),
+    ("square comb of 512, left (rectilinear)", SOME, || shapes::mirrored(shapes::square_comb(512))),
+    ("dense comb of 512, right (rectilinear)", SOME, || shapes::dense_comb(512)),
+    ("dense comb of 512, left (rectilinear)", SOME, || shapes::mirrored(shapes::dense_comb(512))),
+    ("zigzag of 512, right (stalled), 524,288 nodes", LONG, || shapes::zigzag(512, |i| i as f64)),
+    ("zigzag of 512, left (stalled)", LONG, || shapes::zigzag(512, |i| -(i as f64))),
+    ("zigzag of 512, random x (stalled)", LONG, random_zigzag),
+    ("512 random points (stalled)", LONG, || shapes::scattered(512)),
+];
+
+fn random_zigzag() -> Vec<(f64, f64)> {
     let mut numbers = shapes::scattered(512).into_iter();
-    prism("zigzag of 512, random x", LONG, &shapes::zigzag(512, |_| numbers.next().unwrap().0));
-    prism("random points, 512", LONG, &shapes::scattered(512));
+    shapes::zigzag(512, |_| numbers.next().unwrap().0)
 }
 
 /// A cube of so many cells on each axis.
-fn cube(size: &str, cells: usize, effort: Effort) {
+fn cube(cells: usize) -> Job {
     let wide = cells as f64;
-    let job = boxes::filling(Call::MeshBox, [0.0, 0.0, wide, wide, 0.0, wide], [1.0; 2]);
-    let meshed = Meshed::of(&job);
-    row(&format!("mesh_box, {size}"), effort, || meshed.rust(), || meshed.rattle());
-    let longer = Effort { rounds: 8 * effort.rounds, ..effort };
-    row(&format!("filling its lists (Rust), {size}"), longer, || fill(&mut meshed.lists.borrow_mut()), || meshed.rattle());
+    boxes::filling(Call::MeshBox, [0.0, 0.0, wide, wide, 0.0, wide], [1.0; 2])
 }
 
-fn prism(name: &str, effort: Effort, ring: &[(f64, f64)]) {
-    let job = prisms::filling(Call::MeshPrism, ring);
-    let meshed = Meshed::of(&job);
-    row(&format!("mesh_prism, {name}"), effort, || meshed.rust(), || meshed.rattle());
+/// A job that fills the lists of an empty mesh, in the form of each side.
+struct Input {
+    job: Job,
+    region: SolidRegion,
 }
 
-/// A job that fills the lists of an empty mesh, on both sides.
-struct Meshed<'a> {
-    job: &'a Job,
-    region: oracle::core::geometry::SolidRegion,
-    lists: RefCell<Left>,
-    after: [usize; 2],
-}
+impl Input {
+    fn of(job: Job) -> Input {
+        assert!(answer(&job).is_ok_and(|given| [given.nodes.len(), given.kinds.len()] == [job.lengths[0], job.lengths[3]]));
+        Input { region: region(&job), job }
+    }
 
-impl Meshed<'_> {
-    fn of(job: &Job) -> Meshed<'_> {
-        let after = [job.lengths[0], job.lengths[3]];
-        assert!(answer(job).is_ok_and(|given| [given.nodes.len(), given.kinds.len()] == after));
-        Meshed { job, region: region(job), lists: RefCell::new(Left::before(job)), after }
+    fn lists(&self) -> Left {
+        Left::before(&self.job)
     }
 
     fn rust(&self) {
@@ -71,12 +80,20 @@ impl Meshed<'_> {
         assert!(black_box(mesh_region(black_box(&self.region), &config)).is_ok());
     }
 
-    fn rattle(&self) {
-        let lists = &mut *self.lists.borrow_mut();
+    fn rattle(&self, lists: &mut Left) {
         lists.counts = self.job.counts;
-        call(black_box(self.job), lists);
-        assert!(black_box((lists.status, lists.counts)) == (0, self.after));
+        call(black_box(&self.job), lists);
+        assert!(black_box((lists.status, lists.counts)) == (0, [self.job.lengths[0], self.job.lengths[3]]));
     }
+}
+
+fn beside_the_rust(job: Job) -> Sides {
+    lent(Input::of(job), Input::rust, Input::lists, Input::rattle)
+}
+
+fn beside_filling(job: Job) -> Sides {
+    let input = Arc::new(Input::of(job));
+    [side(&input, Input::lists, |_, lists| fill(lists)), side(&input, Input::lists, Input::rattle)]
 }
 
 /// Every entry of the six lists gets a number that the compiler does not know.

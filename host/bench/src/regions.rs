@@ -1,7 +1,7 @@
 //! Extruding, and the total volume of a region list.
 use crate::inputs::{circle, on_four_corners, Ring};
-use crate::{row, Effort, SHORT};
-use cases::regions::{Regions, Row, NO_POLYGON};
+use crate::row::{effort, plain, Row, Sides, SHORT};
+use cases::regions::{Regions, Row as RegionRow, NO_POLYGON};
 use oracle::core::geometry::{Point, Solid, SolidRegion};
 use oracle::geometry::{extrude_polygon, total_volume};
 use rattle::exports::*;
@@ -10,19 +10,22 @@ use std::hint::black_box;
 /// The most regions of a job.
 const REGIONS: usize = 4096;
 
-pub fn rows() {
-    extruded("extrude_polygon, circle of 8 points", &circle(8));
-    extruded("extrude_polygon, circle of 512 points", &circle(512));
-    extruded("extrude_polygon, 8 points on four corners", &on_four_corners(8));
-    extruded("extrude_polygon, 512 points on four corners", &on_four_corners(512));
-    total("total_volume, 2,048 boxes, 2,048 prisms of 8");
+pub fn rows() -> Vec<Row> {
+    let extruded = |size, ring: fn() -> Ring| Row::new("extrude_polygon", size, SHORT, move || extruded(ring()));
+    vec![
+        extruded("circle of 8 points", || circle(8)),
+        extruded("circle of 512 points", || circle(512)),
+        extruded("8 points on four corners", || on_four_corners(8)),
+        extruded("512 points on four corners", || on_four_corners(512)),
+        Row::new("total_volume", "2,048 boxes and 2,048 prisms of 8 points", effort(1000, 5), || total(model())),
+    ]
 }
 
-fn extruded(name: &str, ring: &Ring) {
-    let rust = || {
+fn extruded(ring: Ring) -> Sides {
+    let rust = |ring: &Ring| {
         black_box(extrude_polygon(black_box(&ring.points), 0.0, 1.0, 1, None, None, None));
     };
-    let rattle = || {
+    let rattle = |ring: &Ring| {
         let (xs, ys) = black_box((&ring.xs, &ring.ys));
         let mut kind = 0;
         let [mut x0, mut y0, mut x1, mut y1, mut z0, mut z1] = [0.0; 6];
@@ -36,7 +39,7 @@ fn extruded(name: &str, ring: &Ring) {
         };
         assert!(black_box((status, kind, x0, y0, x1, y1, z0, z1, start, count, material, net, polygon)).0 == 0);
     };
-    row(name, SHORT, rust, rattle);
+    plain(ring, rust, rattle)
 }
 
 /// The same regions in the form of each side.
@@ -56,12 +59,12 @@ fn model() -> Model {
         let [min_x, min_y, max_x, max_y, z_bottom, z_top] = [at, at + 1.0, at + 2.5, at + 2.0, 0.25, 0.75];
         let solid = if i % 2 == 0 {
             let bounds = [min_x, min_y, max_x, max_y, z_bottom, z_top];
-            rows.push(Row { kind: 0, bounds, numbers: [0, 0, 1, 0, NO_POLYGON] });
+            rows.push(RegionRow { kind: 0, bounds, numbers: [0, 0, 1, 0, NO_POLYGON] });
             Solid::Box { min_x, min_y, max_x, max_y, z_bottom, z_top }
         } else {
             let footprint: Vec<Point> = ring.points.iter().map(|p| Point::new(p.x + at, p.y)).collect();
             let bounds = [0.0, 0.0, 0.0, 0.0, z_bottom, z_top];
-            rows.push(Row { kind: 1, bounds, numbers: [xs.len() as u32, 8, 1, 0, NO_POLYGON] });
+            rows.push(RegionRow { kind: 1, bounds, numbers: [xs.len() as u32, 8, 1, 0, NO_POLYGON] });
             xs.extend(footprint.iter().map(|p| p.x));
             ys.extend(footprint.iter().map(|p| p.y));
             Solid::Prism { footprint, z_bottom, z_top }
@@ -71,16 +74,12 @@ fn model() -> Model {
     Model { regions, lists: Regions::of(&rows), xs, ys }
 }
 
-fn total(name: &str) {
-    let model = model();
+fn total(model: Model) -> Sides {
     let expected = total_volume(&model.regions);
-    let rust = || {
+    let rust = |model: &Model| {
         black_box(total_volume(black_box(&model.regions)));
     };
-    let rattle = || {
-        assert!(black_box(volume_of(black_box(&model))) == expected);
-    };
-    row(name, Effort { rounds: 300, calls: 10, values: 1 }, rust, rattle);
+    plain(model, rust, move |model| assert!(black_box(volume_of(black_box(model))) == expected))
 }
 
 fn volume_of(model: &Model) -> f64 {

@@ -1,70 +1,58 @@
-//! The volume of a mesh, and its weld. The Rust is handed a mesh that was made before, and makes the lists of the welded one; Rattle is lent them.
-use crate::{row, Effort};
+//! The volume of a mesh, and its weld. The Rust is handed a mesh that was made before.
+use crate::row::{effort, lent, Effort, Row, Sides};
 use cases::expected::meshes::region;
 use cases::expected::welds::{lists_of, of_the_rust};
 use cases::meshes::{boxes, lengths, Call::MeshBox};
 use cases::welds::{Call, Job, Mesh};
 use oracle::core::mesh;
 use oracle::meshing::{mesh_region, mesh_volume, weld_nodes, MeshConfig};
+use rattle::meshes;
 use rattle::welds::{call, Left};
-use std::cell::RefCell;
 use std::hint::black_box;
-
-/// How often each is timed.
-const VOLUMES: usize = 12;
-const WELDS: usize = 2;
-const ONCE: usize = 1;
 
 const TOLERANCE: f64 = 1e-9;
 
-pub fn rows() {
-    volume("a million hexes", grid([100, 100, 100]));
-    volume("a million prisms", halved(&grid([100, 100, 50])));
-    // Rattle looks through the nodes that are kept for each node, so that 100,000 would take 25 times as long as 20,000: minutes.
-    weld("10,000 nodes, all kept", WELDS, grid([9, 9, 99]));
-    weld("10,000 nodes of boxes", WELDS, side_by_side(25, 50));
-    weld("20,000 nodes, all kept", ONCE, grid([9, 19, 99]));
+/// The Rust's rounds of a weld that takes Rattle seconds.
+const ONCE: Effort = Effort { is_slow: true, ..effort(20, 1) };
+
+pub fn rows() -> Vec<Row> {
+    vec![
+        Row::new("mesh_volume", "a million hexes", effort(15, 1), || volume(grid([100, 100, 100]))),
+        Row::new("mesh_volume", "a million prisms", effort(15, 1), || volume(halved(&grid([100, 100, 50])))),
+        Row::new("weld_nodes", "10,000 nodes of one box", effort(2, 1), || weld(grid([9, 9, 99]))),
+        Row::new("weld_nodes", "10,000 nodes of 1,250 boxes", effort(5, 1), || weld(side_by_side(25, 50))),
+        Row::new("weld_nodes", "20,000 nodes of one box", ONCE, || weld(grid([9, 19, 99]))),
+        Row::new("weld_nodes", "100,000 nodes of one box", ONCE, || weld(grid([9, 99, 99]))),
+        Row::new("weld_nodes", "100,000 nodes of 12,500 boxes", ONCE, || weld(side_by_side(100, 125))),
+    ]
 }
 
-/// Nanoseconds an element.
-fn volume(name: &str, mesh: Mesh) {
-    let effort = Effort { rounds: VOLUMES, calls: 1, values: mesh.kinds.len() };
-    let measured = Measured::of(Call::MeshVolume, mesh, [0; 6]);
-    let volume = mesh_volume(&measured.mesh);
-    let rust = || assert!(black_box(mesh_volume(black_box(&measured.mesh))) == volume);
-    let rattle = || measured.rattle(|left| left.volume == volume);
-    row(&format!("mesh_volume, {name}"), effort, rust, rattle);
+fn volume(mesh: Mesh) -> Sides {
+    let expected = mesh_volume(&of_the_rust(&mesh));
+    let rust = move |mesh: &mesh::Mesh| assert!(black_box(mesh_volume(black_box(mesh))) == expected);
+    sides(Call::MeshVolume, mesh, [0; 6], rust, move |left| left.volume == expected)
 }
 
-/// Nanoseconds a node.
-fn weld(name: &str, rounds: usize, mesh: Mesh) {
-    let effort = Effort { rounds, calls: 1, values: mesh.sizes()[0] };
+fn weld(mesh: Mesh) -> Sides {
     let kept = weld_nodes(&of_the_rust(&mesh), TOLERANCE).nodes.len();
-    let room = lengths(kept, mesh.kinds.len());
-    let measured = Measured::of(Call::WeldNodes, mesh, room);
-    let rust = || assert!(black_box(weld_nodes(black_box(&measured.mesh), TOLERANCE)).nodes.len() == kept);
-    let rattle = || measured.rattle(|left| left.mesh.counts == [kept, room[3]]);
-    row(&format!("weld_nodes, {name}"), effort, rust, rattle);
+    let elements = mesh.kinds.len();
+    let rust = move |mesh: &mesh::Mesh| assert!(black_box(weld_nodes(black_box(mesh), TOLERANCE)).nodes.len() == kept);
+    sides(Call::WeldNodes, mesh, lengths(kept, elements), rust, move |left| left.mesh.counts == [kept, elements])
 }
 
-/// A job that is accepted, on both sides.
-struct Measured {
-    job: Job,
-    mesh: mesh::Mesh,
-    lists: RefCell<Left>,
-}
-
-impl Measured {
-    fn of(call: Call, mesh: Mesh, lengths: [usize; 6]) -> Measured {
-        let job = Job { call, mesh, is_made: true, tolerance: TOLERANCE, lengths };
-        Measured { mesh: of_the_rust(&job.mesh), lists: RefCell::new(Left::before(&job)), job }
-    }
-
-    fn rattle(&self, is_right: impl Fn(&Left) -> bool) {
-        let lists = &mut *self.lists.borrow_mut();
-        call(black_box(&self.job), lists);
+/// The lists that are read are there before, those of these lengths are lent.
+fn sides(
+    of: Call, mesh: Mesh, lengths: [usize; 6], rust: impl Fn(&mesh::Mesh) + Send + 'static, is_right: impl Fn(&Left) -> bool + Send + 'static,
+) -> Sides {
+    let of_rust = of_the_rust(&mesh);
+    let job = Job { call: of, mesh, is_made: true, tolerance: TOLERANCE, lengths: [0; 6] };
+    let before = Left::before(&job);
+    let lists = move |_: &mesh::Mesh| Left { mesh: meshes::Left::of([0; 2], lengths), ..before };
+    let rattle = move |_: &mesh::Mesh, lists: &mut Left| {
+        call(black_box(&job), lists);
         assert!(black_box(&*lists).mesh.status == 0 && is_right(lists));
-    }
+    };
+    lent(of_rust, rust, lists, rattle)
 }
 
 /// The mesh of a box with so many cells on each axis.
