@@ -1,12 +1,13 @@
 -- What an enum names stands at its places. Assumes nothing.
-use Prim.Native.Nat.{ℕ}
+use Prim.Native.Nat.{ℕ, _+_}
 use mathlib.Core.Path.{_≡_, refl, sym, ap, subst, _∙_}
 use mathlib.Core.Bool.{Bool}
 use mathlib.Core.List.{List}
+use mathlib.Core.Option.{Option, Option·map}
 use Rattle.lists.specs.Answer as answer
-use Rattle.openrdson_core.specs.Layout.{namePartAnswer, namePartWithin}
-use Rattle.openrdson_core.specs.Maps.{placed, placeWithin, askedFirst, spanned, spanWithin}
-use Rattle.openrdson_core.specs.Tech.{viaLayersAnswer, viaLayersWithin}
+use Rattle.openrdson_core.specs.Layout.{namePartAnswer, namePartWithin, namePartFrom}
+use Rattle.openrdson_core.specs.Maps.{placed, placeWithin, placeFrom, spanned, spanWithin, spanFrom}
+use Rattle.openrdson_core.specs.Tech.{viaLayersAnswer, viaLayersWithin, viaLayersFrom}
 use Rattle.openrdson_core.specs.declared.layout.NamePart.{NamePart}
 use Rattle.openrdson_core.specs.declared.layout.NamePart.the-variants as named
 use Rattle.openrdson_core.specs.declared.maps.Span.{Span}
@@ -33,25 +34,25 @@ pub saidAs : {A B : Type 0} (says : A → B → Type 0) (a : answer.Answer A) (b
 saidAs says (answer.refused n) (answer.refused m) e g = record { status = g .status ∙ sym e; value = g .value }
 saidAs says (answer.given x) (answer.given y) w g = record { status = g .status; value = subst (says x) (sym (g .value)) w }
 
-pub span-stands : (block : List ℕ) (s : Span) → spanWithin block s → spec.StandsIf block (spanned block s) (spec.spanPlaces s)
-span-stands block (span.Part start count) w = (refl, w)
-span-stands block span.Empty w = refl
+pub span-stands : (block : List ℕ) (at : Option ℕ) (s : Span) → spanWithin block s → spanFrom at s → spec.StandsIf block at (spanned block s) (spec.spanPlaces s)
+span-stands block at (span.Part start count) w f = (refl, w, f)
+span-stands block at span.Empty w f = refl
 
-pub name-stands : (conducting via asked : List ℕ) (p : NamePlace) → placeWithin conducting via p → askedFirst conducting asked p → Agree (spec.NameStands conducting via asked) (placed conducting via p) (spec.nameAnswer p)
-name-stands conducting via asked (place.Conducting start count) w f = (f, (refl, w))
-name-stands conducting via asked (place.Via start count) w f = (f, (refl, w))
+pub name-stands : (conducting via asked : List ℕ) (p : NamePlace) → placeWithin conducting via p → placeFrom conducting via asked p → Agree (spec.NameStands conducting via asked) (placed conducting via p) (spec.nameAnswer p)
+name-stands conducting via asked (place.Conducting start count) w f = (refl, w, f)
+name-stands conducting via asked (place.Via start count) w f = (f .0, (refl, w, f .1))
 name-stands conducting via asked place.Nothing w f = refl
 name-stands conducting via asked (place.Refused why) w f = refl
 
-pub part-stands : (names : List ℕ) (p : NamePart) → namePartWithin names p → Agree (spec.StandsIf names) (namePartAnswer names p) (spec.partAnswer p)
-part-stands names (named.Part start count) w = (refl, w)
-part-stands names named.Nothing w = refl
-part-stands names (named.Refused why) w = refl
+pub part-stands : (names : List ℕ) (at : Option ℕ) (p : NamePart) → namePartWithin names p → namePartFrom at p → Agree (spec.StandsIf names at) (namePartAnswer names p) (spec.partAnswer p)
+part-stands names at (named.Part start count) w f = (refl, w, f)
+part-stands names at named.Nothing w f = refl
+part-stands names at (named.Refused why) w f = refl
 
-pub via-stands : (vias : List ℕ) (v : ViaLayers) → viaLayersWithin vias v → Agree (spec.ViaStands vias) (viaLayersAnswer vias v) (spec.viaAnswer v)
-via-stands vias (via.Found b t) w = (refl, span-stands vias b (w .0), span-stands vias t (w .1))
-via-stands vias via.Nothing w = refl
-via-stands vias (via.Refused why) w = refl
+pub via-stands : (vias : List ℕ) (at : Option ℕ) (v : ViaLayers) → viaLayersWithin vias v → viaLayersFrom at v → Agree (spec.ViaStands vias at) (viaLayersAnswer vias v) (spec.viaAnswer v)
+via-stands vias at (via.Found b t) w f = (refl, span-stands vias at b (w .0) (f .0), span-stands vias (Option·map (λ k. k + 32) at) t (w .1) (f .1))
+via-stands vias at via.Nothing w f = refl
+via-stands vias at (via.Refused why) w f = refl
 
 pub layer-of : {f : Bool} {h h' t t' : spec.FigureGiven} → h ≡ h' → t ≡ t' → spec.theLayer f h t ≡ spec.theLayer f h' t'
 layer-of {f} {h} {h'} {t} {t'} e d = ap (λ x. spec.theLayer f x t) e ∙ ap (λ y. spec.theLayer f h' y) d

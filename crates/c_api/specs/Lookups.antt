@@ -3,14 +3,14 @@ use Prim.Native.Nat.{ℕ, zero, suc, _+_, _≤_}
 use mathlib.Core.Path.{_≡_}
 use mathlib.Core.Bool.{Bool, true, false}
 use mathlib.Core.List.{List, []}
-use mathlib.Core.Option.{Option, some, none}
+use mathlib.Core.Option.{Option, some, none, Option·map}
 use lib.Ieee.{Float}
 use lib.ListN.{length}
 use Rattle.lists.specs.Answer.{Answer, refused, given}
 use Rattle.lists.specs.Lists.{part}
 use Rattle.binary64.specs.Constants.{zero64}
 use Rattle.openrdson_core.specs.Refusals.{refusalNumber}
-use Rattle.openrdson_core.specs.Maps.{inMap, isSome}
+use Rattle.openrdson_core.specs.Maps.{startInMap}
 use Rattle.openrdson_core.specs.Tech.{StackFigures, ViaNames}
 use Rattle.openrdson_core.specs.declared.layout.NamePart.{NamePart}
 use Rattle.openrdson_core.specs.declared.layout.NamePart.the-variants as named
@@ -42,14 +42,14 @@ abbrev pub spanPlaces : Span → Places
 spanPlaces (span.Part start count) = thePlaces start count
 spanPlaces span.Empty = thePlaces 0 0
 
--- the name stands at the places, which lie in the block
-abbrev pub Stands : List ℕ → List ℕ → Places → Type 0
-Stands block name p = (bytesAt block p ≡ name) × placesIn block p
+-- the name stands at the places, which lie in the block and start at `at`
+abbrev pub Stands : List ℕ → Option ℕ → List ℕ → Places → Type 0
+Stands block at name p = (bytesAt block p ≡ name) × placesIn block p × (at ≡ some (p .start))
 
 -- the same of a name that may be absent: both numbers are 0 then
-abbrev pub StandsIf : List ℕ → Option (List ℕ) → Places → Type 0
-StandsIf block none p = p ≡ thePlaces 0 0
-StandsIf block (some name) p = Stands block name p
+abbrev pub StandsIf : List ℕ → Option ℕ → Option (List ℕ) → Places → Type 0
+StandsIf block at none p = p ≡ thePlaces 0 0
+StandsIf block at (some name) p = Stands block at name p
 
 abbrev pub partAnswer : NamePart → Answer Places
 partAnswer (named.Part start count) = given (thePlaces start count)
@@ -65,11 +65,11 @@ pub record NameAt : Type 0 where
 abbrev pub theName : ℕ → ℕ → ℕ → NameAt
 theName b s n = record { block = b; places = thePlaces s n }
 
--- the name stands in the block with this number; there are two, and it is the via map only where the conducting map has none for the name asked
+-- the name stands in the block with this number, where that map has it for the name asked; there are two, and it is the via map only where the conducting map has none
 abbrev pub StandsIn : List ℕ → List ℕ → List ℕ → List ℕ → ℕ → Places → Type 0
 StandsIn conducting via asked name zero p = ⊥
-StandsIn conducting via asked name (suc zero) p = (isSome (inMap conducting asked) ≡ true) × Stands conducting name p
-StandsIn conducting via asked name (suc (suc zero)) p = (isSome (inMap conducting asked) ≡ false) × Stands via name p
+StandsIn conducting via asked name (suc zero) p = Stands conducting (startInMap conducting asked) name p
+StandsIn conducting via asked name (suc (suc zero)) p = (startInMap conducting asked ≡ none) × Stands via (startInMap via asked) name p
 StandsIn conducting via asked name (suc (suc (suc n))) p = ⊥
 
 -- all numbers are 0 for none
@@ -118,10 +118,10 @@ pub record ViaAt : Type 0 where
 abbrev pub theVia : Bool → Places → Places → ViaAt
 theVia f b t = record { found = f; bottom = b; top = t }
 
--- the layers of a via; all numbers are 0 where there is none
-abbrev pub ViaStands : List ℕ → Option ViaNames → ViaAt → Type 0
-ViaStands vias none v = v ≡ theVia false (thePlaces 0 0) (thePlaces 0 0)
-ViaStands vias (some names) v = (v .found ≡ true) × StandsIf vias (names .bottom) (v .bottom) × StandsIf vias (names .top) (v .top)
+-- the layers of a via, the top's 32 bytes past the bottom's; all numbers are 0 where there is none
+abbrev pub ViaStands : List ℕ → Option ℕ → Option ViaNames → ViaAt → Type 0
+ViaStands vias at none v = v ≡ theVia false (thePlaces 0 0) (thePlaces 0 0)
+ViaStands vias at (some names) v = (v .found ≡ true) × StandsIf vias at (names .bottom) (v .bottom) × StandsIf vias (Option·map (λ k. k + 32) at) (names .top) (v .top)
 
 abbrev pub viaAnswer : ViaLayers → Answer ViaAt
 viaAnswer (via.Found b t) = given (theVia true (spanPlaces b) (spanPlaces t))

@@ -1,9 +1,9 @@
 // The calls of openrdson_core on name blocks. A name is given as a place in the block it stands in.
 ghost use mathlib.Core.Path.{_≡_};
 ghost use Rattle.lists.specs.Answer.{status, mapAnswer};
-ghost use Rattle.openrdson_core.specs.Layout.{isMarker, layerName};
+ghost use Rattle.openrdson_core.specs.Layout.{isMarker, layerName, startOfName};
 ghost use Rattle.openrdson_core.specs.Maps.{lookup, isSome, partOf};
-ghost use Rattle.openrdson_core.specs.Tech.{blocksFault, materialNumber, stackLayer, viaLayers};
+ghost use Rattle.openrdson_core.specs.Tech.{blocksFault, materialNumber, stackLayer, startOfEnds, viaLayers};
 ghost use Rattle.c_api.specs.Given.{Copied, Given, GivenAs};
 ghost use Rattle.c_api.specs.Lookups as spec;
 use crate::answers::give_bytes;
@@ -128,7 +128,7 @@ pub extern "C" fn openrdson_via_layers(
     top_start: &mut usize,
     top_length: &mut usize,
 ) -> u32
-    ensures { λ r. ⌜ GivenAs (spec.ViaStands (now (vias .entry))) (viaLayers (now (vias .entry)) (now (name .entry))) r (spec.theVia (now (found .entry)) (spec.thePlaces (now («bottom_start» .entry)) (now («bottom_length» .entry))) (spec.thePlaces (now («top_start» .entry)) (now («top_length» .entry)))) (spec.theVia (now (found .exit)) (spec.thePlaces (now («bottom_start» .exit)) (now («bottom_length» .exit))) (spec.thePlaces (now («top_start» .exit)) (now («top_length» .exit)))) ⌝ }
+    ensures { λ r. ⌜ GivenAs (spec.ViaStands (now (vias .entry)) (startOfEnds (now (vias .entry)) (now (name .entry)))) (viaLayers (now (vias .entry)) (now (name .entry))) r (spec.theVia (now (found .entry)) (spec.thePlaces (now («bottom_start» .entry)) (now («bottom_length» .entry))) (spec.thePlaces (now («top_start» .entry)) (now («top_length» .entry)))) (spec.theVia (now (found .exit)) (spec.thePlaces (now («bottom_start» .exit)) (now («bottom_length» .exit))) (spec.thePlaces (now («top_start» .exit)) (now («top_length» .exit)))) ⌝ }
 {
     give_via(
         openrdson_core::via_layers(vias, name),
@@ -147,7 +147,7 @@ pub extern "C" fn openrdson_layer_name(
     start: &mut usize,
     length: &mut usize,
 ) -> u32
-    ensures { λ r. ⌜ GivenAs (spec.StandsIf (now (names .entry))) (layerName (now (names .entry)) layer) r (spec.thePlaces (now (start .entry)) (now (length .entry))) (spec.thePlaces (now (start .exit)) (now (length .exit))) ⌝ }
+    ensures { λ r. ⌜ GivenAs (spec.StandsIf (now (names .entry)) (startOfName (now (names .entry)) layer)) (layerName (now (names .entry)) layer) r (spec.thePlaces (now (start .entry)) (now (length .entry))) (spec.thePlaces (now (start .exit)) (now (length .exit))) ⌝ }
 {
     give_part(openrdson_core::layer_name(names, layer), start, length)
 }

@@ -2,7 +2,7 @@
 use mathlib.Core.Path.{_≡_, sym, ap, _∙_}
 use mathlib.Core.Bool.{Bool, true, not, _&&_, _||_}
 use mathlib.Core.List.{List}
-use mathlib.Core.Option.{some, none, Option·map}
+use mathlib.Core.Option.{Option, some, none, Option·map}
 use Prim.Native.Nat.{ℕ, _+_, _*_, _≤_, _<_}
 use native.Mathlib.Omega.{arith}
 use lib.Dec.{eqb, leb}
@@ -13,7 +13,7 @@ use Rattle.lists.proofs.Parts.{part-head}
 use Rattle.lists.proofs.Scans.{both}
 use Rattle.lists.proofs.Searches.{first-below}
 use Rattle.openrdson_core.specs.Bytes.{same, unpad, nameLength}
-use Rattle.openrdson_core.specs.Blocks.{widthOf, cellOk, count, keyAt, valueAt, distinct, blockOk, rowOf, entryOf}
+use Rattle.openrdson_core.specs.Blocks.{widthOf, cellOk, count, keyAt, valueStart, valueAt, distinct, blockOk, rowOf, entryOf}
 use Rattle.openrdson_core.specs.declared.blocks.Cell.{Cell}
 use Rattle.openrdson_core.specs.declared.blocks.Cell.the-variants.{Name}
 
@@ -48,3 +48,7 @@ entry-some v s name i start e at = ap (λ (k : ℕ). some (part k (widthOf v) s)
 
 pub entry-none : (v : Cell) (s name : List ℕ) → none ≡ rowOf s name → none ≡ entryOf v s name
 entry-none v s name e = ap (Option·map (valueAt Name v s)) e
+
+-- where the value of the row found starts
+pub start-some : (k v : Cell) (s : List ℕ) (row : Option ℕ) (i start : ℕ) → some i ≡ row → start ≡ valueStart k v s i → Option·map (valueStart k v s) row ≡ some start
+start-some k v s row i start e at = sym (ap some at ∙ ap (Option·map (valueStart k v s)) e)

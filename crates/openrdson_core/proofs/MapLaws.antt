@@ -1,11 +1,11 @@
 -- The name that is the value of a row, in a block with keys k. Assumes nothing.
-use mathlib.Core.Path.{_≡_, sym, ap, _∙_}
+use mathlib.Core.Path.{_≡_, refl, sym, ap, _∙_}
 use mathlib.Core.List.{List}
 use mathlib.Core.Option.{Option, some, none, Option·map}
 use Prim.Native.Nat.{ℕ, _+_, _*_, _≤_}
 use Rattle.lists.specs.Lists.{part}
 use Rattle.openrdson_core.specs.Bytes.{unpad, nameLength}
-use Rattle.openrdson_core.specs.Blocks.{widthOf, count, valueAt}
+use Rattle.openrdson_core.specs.Blocks.{widthOf, count, valueStart, valueAt}
 use Rattle.openrdson_core.specs.declared.blocks.Cell.{Cell}
 use Rattle.openrdson_core.specs.declared.blocks.Cell.the-variants.{Name}
 use Rattle.openrdson_core.proofs.BlockLaws.{unpad-part}
@@ -25,3 +25,8 @@ module _ (k : Cell) (s : List ℕ) (row : Option ℕ) where
       → some (part start n s) ≡ Option·map unpad (Option·map (valueAt k Name s) row)
   name-some i start n e at long few =
       ap some (name-at k s i start n at long few) ∙ ap (λ (o : Option ℕ). Option·map unpad (Option·map (valueAt k Name s) o)) e
+
+-- no name, no start
+pub start-none : (k : Cell) (s : List ℕ) (row : Option ℕ) → none ≡ Option·map unpad (Option·map (valueAt k Name s) row) → Option·map (valueStart k Name s) row ≡ none
+start-none k s none e = refl
+start-none k s (some i) e = cc

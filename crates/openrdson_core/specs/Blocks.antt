@@ -42,12 +42,16 @@ cellOk Ends c = nameOrNone (part 0 32 c) && nameOrNone (part 32 32 c)
 abbrev pub count : List ℕ → ℕ
 count s = little (part 0 2 s)
 
+-- where value i of a block with keys k and values v starts
+abbrev pub valueStart : Cell → Cell → List ℕ → ℕ → ℕ
+valueStart k v s i = 2 + count s * widthOf k + i * widthOf v
+
 -- key i and value i of a block with keys k and values v
 abbrev pub keyAt : Cell → List ℕ → ℕ → List ℕ
 keyAt k s i = part (2 + i * widthOf k) (widthOf k) s
 
 abbrev pub valueAt : Cell → Cell → List ℕ → ℕ → List ℕ
-valueAt k v s i = part (2 + count s * widthOf k + i * widthOf v) (widthOf v) s
+valueAt k v s i = part (valueStart k v s i) (widthOf v) s
 
 -- no two of the n cells are the same
 abbrev pub distinct : ℕ → (ℕ → List ℕ) → Bool

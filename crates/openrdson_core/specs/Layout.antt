@@ -1,5 +1,6 @@
 -- The layout: the logical name of a layer number, and the marker rule.
 use Prim.Native.Nat.{ℕ, _+_, _-_, _≤_}
+use mathlib.Core.Path.{_≡_}
 use mathlib.Core.Bool.{Bool, _||_}
 use mathlib.Core.List.{List, [], _∷_}
 use mathlib.Core.Option.{Option, some, none, Option·map}
@@ -10,7 +11,7 @@ use Rattle.lists.specs.Answer.{Answer, refused, given, unless}
 use Rattle.lists.specs.Lists.{part, first}
 use Rattle.openrdson_core.specs.Refusals.{refusalNumber}
 use Rattle.openrdson_core.specs.Bytes.{unpad, little, startsWith, contains}
-use Rattle.openrdson_core.specs.Blocks.{count, keyAt, valueAt, layerNamesOk}
+use Rattle.openrdson_core.specs.Blocks.{count, keyAt, valueStart, valueAt, layerNamesOk}
 use Rattle.openrdson_core.specs.declared.blocks.Cell.the-variants.{Number, Name}
 use Rattle.openrdson_core.specs.declared.layout.NamePart.{NamePart}
 use Rattle.openrdson_core.specs.declared.layout.NamePart.the-variants as named
@@ -31,6 +32,10 @@ nameOfLayer s layer = Option·map unpad (Option·map (valueAt Number Name s) (ro
 unfoldable pub layerName : List ℕ → ℤ → Answer (Option (List ℕ))
 layerName s layer = unless (layerNamesOk s) 14 (given (nameOfLayer s layer))
 
+-- where the logical name of a layer starts in the block
+abbrev pub startOfName : List ℕ → ℤ → Option ℕ
+startOfName s layer = Option·map (valueStart Number Name s) (rowOfPattern s (patternOf layer))
+
 -- the part that an enum names, and that it lies in the block
 abbrev pub namePartAnswer : List ℕ → NamePart → Answer (Option (List ℕ))
 namePartAnswer s (named.Part start n) = given (some (part start n s))
@@ -41,6 +46,12 @@ abbrev pub namePartWithin : List ℕ → NamePart → Type 0
 namePartWithin s (named.Part start n) = start + n ≤ length s
 namePartWithin s named.Nothing = Unit
 namePartWithin s (named.Refused why) = Unit
+
+-- a part starts there
+abbrev pub namePartFrom : Option ℕ → NamePart → Type 0
+namePartFrom at (named.Part start n) = at ≡ some start
+namePartFrom at named.Nothing = Unit
+namePartFrom at (named.Refused why) = Unit
 
 -- ---- markers: `seed_`, `BLOCK_`, `_prop`, `marker` and `drawing` in ASCII
 

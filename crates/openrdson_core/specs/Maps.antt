@@ -9,7 +9,7 @@ use Rattle.lists.specs.Answer.{Answer, refused, given, unless}
 use Rattle.lists.specs.Lists.{part}
 use Rattle.openrdson_core.specs.Refusals.{refusalNumber}
 use Rattle.openrdson_core.specs.Bytes.{unpad}
-use Rattle.openrdson_core.specs.Blocks.{mapOk, entryOf}
+use Rattle.openrdson_core.specs.Blocks.{valueStart, mapOk, rowOf, entryOf}
 use Rattle.openrdson_core.specs.declared.blocks.Cell.the-variants.{Name}
 use Rattle.openrdson_core.specs.declared.maps.Span.{Span}
 use Rattle.openrdson_core.specs.declared.maps.Span.the-variants as span
@@ -21,6 +21,10 @@ use Rattle.openrdson_core.specs.declared.maps.Lookup.the-variants as fou
 -- the physical name that one map has for a logical one, without its padding
 abbrev pub inMap : List ℕ → List ℕ → Option (List ℕ)
 inMap s name = Option·map unpad (entryOf Name s name)
+
+-- where the physical name of a logical one starts in a map
+abbrev pub startInMap : List ℕ → List ℕ → Option ℕ
+startInMap s name = Option·map (valueStart Name Name s) (rowOf s name)
 
 -- 14 in conducting, then via; else the physical name, if a map has one
 unfoldable pub lookup : List ℕ → List ℕ → List ℕ → Answer (Option (List ℕ))
@@ -52,6 +56,11 @@ abbrev pub spanWithin : List ℕ → Span → Type 0
 spanWithin s (span.Part start count) = start + count ≤ length s
 spanWithin s span.Empty = Unit
 
+-- a part starts there
+abbrev pub spanFrom : Option ℕ → Span → Type 0
+spanFrom at (span.Part start count) = at ≡ some start
+spanFrom at span.Empty = Unit
+
 -- the part of the one map or the other
 abbrev pub placed : List ℕ → List ℕ → NamePlace → Answer (Option (List ℕ))
 placed conducting via (place.Conducting start count) = given (some (part start count conducting))
@@ -65,12 +74,12 @@ placeWithin conducting via (place.Via start count) = start + count ≤ length vi
 placeWithin conducting via place.Nothing = Unit
 placeWithin conducting via (place.Refused why) = Unit
 
--- the conducting map is asked first: a place in it means that it has the name, a place in the via map that it has none
-abbrev pub askedFirst : List ℕ → List ℕ → NamePlace → Type 0
-askedFirst conducting name (place.Conducting start count) = isSome (inMap conducting name) ≡ true
-askedFirst conducting name (place.Via start count) = isSome (inMap conducting name) ≡ false
-askedFirst conducting name place.Nothing = Unit
-askedFirst conducting name (place.Refused why) = Unit
+-- the conducting map is asked first: a place in it starts where its physical name does; a place in the via map means that the conducting map has none
+abbrev pub placeFrom : List ℕ → List ℕ → List ℕ → NamePlace → Type 0
+placeFrom conducting via name (place.Conducting start count) = startInMap conducting name ≡ some start
+placeFrom conducting via name (place.Via start count) = (startInMap conducting name ≡ none) × (startInMap via name ≡ some start)
+placeFrom conducting via name place.Nothing = Unit
+placeFrom conducting via name (place.Refused why) = Unit
 
 abbrev pub lookupAnswer : Lookup → Answer Bool
 lookupAnswer found.Found = given true

@@ -9,8 +9,8 @@ use Rattle.lists.specs.Lists.{part, allBelow}
 use Rattle.binary64.specs.Numbers.{atMost}
 use Rattle.openrdson_core.specs.Refusals.{refusalNumber}
 use Rattle.openrdson_core.specs.Bytes.{zeros, unpad, little}
-use Rattle.openrdson_core.specs.Blocks.{hasHeight, hasThickness, count, valueAt, layerNamesOk, mapOk, stackOk, viasOk, rowOf, entryOf}
-use Rattle.openrdson_core.specs.Maps.{spanned, spanWithin}
+use Rattle.openrdson_core.specs.Blocks.{hasHeight, hasThickness, count, valueStart, valueAt, layerNamesOk, mapOk, stackOk, viasOk, rowOf, entryOf}
+use Rattle.openrdson_core.specs.Maps.{spanned, spanWithin, spanFrom}
 use Rattle.openrdson_core.specs.declared.blocks.Cell.the-variants.{Name, Figures, Ends}
 use Rattle.openrdson_core.specs.declared.tech.Figure.{Figure}
 use Rattle.openrdson_core.specs.declared.tech.Figure.the-variants as figure
@@ -67,6 +67,10 @@ viaNamesOf c = record { bottom = endName (part 0 32 c); top = endName (part 32 3
 unfoldable pub viaLayers : List ℕ → List ℕ → Answer (Option ViaNames)
 viaLayers s name = unless (viasOk s) 14 (given (Option·map viaNamesOf (entryOf Ends s name)))
 
+-- where the name of the bottom layer starts in the block; the top's starts 32 bytes further
+abbrev pub startOfEnds : List ℕ → List ℕ → Option ℕ
+startOfEnds s name = Option·map (valueStart Name Ends s) (rowOf s name)
+
 -- ---- materials: conductors, diffusions, then vias; a name's number is its first place plus 1, and 0 where it has none
 
 abbrev pub numberFrom : ℕ → Option ℕ → ℕ → ℕ
@@ -120,3 +124,9 @@ abbrev pub viaLayersWithin : List ℕ → ViaLayers → Type 0
 viaLayersWithin s (via.Found b t) = spanWithin s b × spanWithin s t
 viaLayersWithin s via.Nothing = Unit
 viaLayersWithin s (via.Refused why) = Unit
+
+-- the bottom's part starts there, the top's 32 bytes further
+abbrev pub viaLayersFrom : Option ℕ → ViaLayers → Type 0
+viaLayersFrom at (via.Found b t) = spanFrom at b × spanFrom (Option·map (λ k. k + 32) at) t
+viaLayersFrom at via.Nothing = Unit
+viaLayersFrom at (via.Refused why) = Unit

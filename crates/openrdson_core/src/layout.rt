@@ -4,7 +4,7 @@ ghost use mathlib.Core.Bool.{true};
 ghost use Prim.Native.Nat.{_<_};
 ghost use Rattle.openrdson_core.specs.Bytes.{unpad};
 ghost use Rattle.openrdson_core.specs.Blocks.{layerNamesOk, count, valueAt};
-ghost use Rattle.openrdson_core.specs.Maps.{spanned, spanWithin};
+ghost use Rattle.openrdson_core.specs.Maps.{spanned, spanWithin, spanFrom};
 ghost use Rattle.openrdson_core.specs.Answers.{rowAnswer};
 ghost use Rattle.openrdson_core.specs.Layout as spec;
 use crate::blocks::Cell;
@@ -84,7 +84,7 @@ pub fn layer_name_at(s: &[u8], i: usize) -> &[u8]
 // The part of the block that is a layer's logical name. For a caller that has checked the block.
 pub fn find_layer_name(s: &[u8], layer: i16) -> Span
     requires { ⌜ layerNamesOk (now s) ≡ true ⌝ }
-    ensures { λ r. ⌜ (spanned (now (s .entry)) r ≡ spec.nameOfLayer (now (s .entry)) layer) × spanWithin (now (s .entry)) r ⌝ }
+    ensures { λ r. ⌜ (spanned (now (s .entry)) r ≡ spec.nameOfLayer (now (s .entry)) layer) × spanWithin (now (s .entry)) r × spanFrom (spec.startOfName (now (s .entry)) layer) r ⌝ }
 {
     let n = rows(s);
     let found = find_pattern(s, pattern(layer));
@@ -99,7 +99,7 @@ pub fn find_layer_name(s: &[u8], layer: i16) -> Span
 
 // Where a layer's logical name stands; 14.
 pub fn layer_name(s: &[u8], layer: i16) -> NamePart
-    ensures { λ r. ⌜ (spec.namePartAnswer (now (s .entry)) r ≡ spec.layerName (now (s .entry)) layer) × spec.namePartWithin (now (s .entry)) r ⌝ }
+    ensures { λ r. ⌜ (spec.namePartAnswer (now (s .entry)) r ≡ spec.layerName (now (s .entry)) layer) × spec.namePartWithin (now (s .entry)) r × spec.namePartFrom (spec.startOfName (now (s .entry)) layer) r ⌝ }
 {
     if !is_layer_names(s) {
         return NamePart::Refused(Refusal::BlockDamaged);

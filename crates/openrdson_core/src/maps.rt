@@ -45,7 +45,7 @@ pub fn is_map(s: &[u8]) -> bool
 // The part of a map that is the physical name of a logical one. For a caller that has checked the map.
 pub fn find_in_map(s: &[u8], name: &[u8]) -> Span
     requires { ⌜ mapOk (now s) ≡ true ⌝ }
-    ensures { λ r. ⌜ (spec.spanned (now (s .entry)) r ≡ spec.inMap (now (s .entry)) (now (name .entry))) × spec.spanWithin (now (s .entry)) r ⌝ }
+    ensures { λ r. ⌜ (spec.spanned (now (s .entry)) r ≡ spec.inMap (now (s .entry)) (now (name .entry))) × spec.spanWithin (now (s .entry)) r × spec.spanFrom (spec.startInMap (now (s .entry)) (now (name .entry))) r ⌝ }
 {
     let n = rows(s);
     let found = find_row(s, name);
@@ -60,7 +60,7 @@ pub fn find_in_map(s: &[u8], name: &[u8]) -> Span
 
 // Where the physical name of a logical one stands.
 pub fn name_place(conducting: &[u8], via: &[u8], name: &[u8]) -> NamePlace
-    ensures { λ r. ⌜ (spec.placed (now (conducting .entry)) (now (via .entry)) r ≡ spec.lookup (now (conducting .entry)) (now (via .entry)) (now (name .entry))) × spec.placeWithin (now (conducting .entry)) (now (via .entry)) r × spec.askedFirst (now (conducting .entry)) (now (name .entry)) r ⌝ }
+    ensures { λ r. ⌜ (spec.placed (now (conducting .entry)) (now (via .entry)) r ≡ spec.lookup (now (conducting .entry)) (now (via .entry)) (now (name .entry))) × spec.placeWithin (now (conducting .entry)) (now (via .entry)) r × spec.placeFrom (now (conducting .entry)) (now (via .entry)) (now (name .entry)) r ⌝ }
 {
     if !is_map(conducting) {
         return NamePlace::Refused(Refusal::BlockDamaged);

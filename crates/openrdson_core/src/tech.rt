@@ -8,7 +8,7 @@ ghost use Rattle.lists.specs.Answer.{given};
 ghost use Rattle.lists.specs.Lists.{part, allBelow};
 ghost use Rattle.binary64.specs.Numbers.{atMost};
 ghost use Rattle.openrdson_core.specs.Blocks.{stackOk, viasOk, entryOf};
-ghost use Rattle.openrdson_core.specs.Maps.{spanned, spanWithin};
+ghost use Rattle.openrdson_core.specs.Maps.{spanned, spanWithin, spanFrom};
 ghost use Rattle.openrdson_core.specs.Tech as spec;
 ghost use Rattle.openrdson_core.specs.Answers.{checkAnswer, numberedAnswer};
 use crate::blocks::Cell;
@@ -166,7 +166,7 @@ pub fn stack_layer(s: &[u8], name: &[u8]) -> StackLayer
 // The name in 32 bytes of a block from a place on; empty where they are all zero.
 fn end_at(s: &[u8], at: usize) -> Span
     requires { ⌜ at + 32 ≤ length (now s) ⌝ }
-    ensures { λ r. ⌜ (spanned (now (s .entry)) r ≡ spec.endName (part at 32 (now (s .entry)))) × spanWithin (now (s .entry)) r ⌝ }
+    ensures { λ r. ⌜ (spanned (now (s .entry)) r ≡ spec.endName (part at 32 (now (s .entry)))) × spanWithin (now (s .entry)) r × spanFrom (some at) r ⌝ }
 {
     let c = &s[at..at + 32];
     if is_zero(c) {
@@ -178,7 +178,7 @@ fn end_at(s: &[u8], at: usize) -> Span
 // The layers of the via of a name. For a caller that has checked the block.
 pub fn find_via(s: &[u8], name: &[u8]) -> ViaLayers
     requires { ⌜ viasOk (now s) ≡ true ⌝ }
-    ensures { λ r. ⌜ (spec.viaLayersAnswer (now (s .entry)) r ≡ given (Option·map spec.viaNamesOf (entryOf Cell.Ends (now (s .entry)) (now (name .entry))))) × spec.viaLayersWithin (now (s .entry)) r ⌝ }
+    ensures { λ r. ⌜ (spec.viaLayersAnswer (now (s .entry)) r ≡ given (Option·map spec.viaNamesOf (entryOf Cell.Ends (now (s .entry)) (now (name .entry))))) × spec.viaLayersWithin (now (s .entry)) r × spec.viaLayersFrom (spec.startOfEnds (now (s .entry)) (now (name .entry))) r ⌝ }
 {
     let n = rows(s);
     let found = find_row(s, name);
@@ -195,7 +195,7 @@ pub fn find_via(s: &[u8], name: &[u8]) -> ViaLayers
 
 // The layers of the via of a name, the first of equal names; 14.
 pub fn via_layers(s: &[u8], name: &[u8]) -> ViaLayers
-    ensures { λ r. ⌜ (spec.viaLayersAnswer (now (s .entry)) r ≡ spec.viaLayers (now (s .entry)) (now (name .entry))) × spec.viaLayersWithin (now (s .entry)) r ⌝ }
+    ensures { λ r. ⌜ (spec.viaLayersAnswer (now (s .entry)) r ≡ spec.viaLayers (now (s .entry)) (now (name .entry))) × spec.viaLayersWithin (now (s .entry)) r × spec.viaLayersFrom (spec.startOfEnds (now (s .entry)) (now (name .entry))) r ⌝ }
 {
     if !is_vias(s) {
         return ViaLayers::Refused(Refusal::BlockDamaged);

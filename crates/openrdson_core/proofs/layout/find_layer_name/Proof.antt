@@ -13,7 +13,7 @@ use Rattle.openrdson_core.specs.Answers.{rowAnswer}
 use Rattle.openrdson_core.specs.Blocks.{count}
 use Rattle.openrdson_core.specs.Layout.{patternOf, rowOfPattern}
 use Rattle.openrdson_core.specs.declared.blocks.Cell.the-variants.{Number, Name}
-use Rattle.openrdson_core.proofs.BlockLaws.{Counted, counted}
+use Rattle.openrdson_core.proofs.BlockLaws.{Counted, counted, start-some}
 use Rattle.openrdson_core.proofs.LayoutLaws.{layer-below}
 use Rattle.openrdson_core.proofs.MapLaws.{name-none, name-some}
 use Rattle.openrdson_core.proofs.layout.find_layer_name.Statement.{statement}
@@ -62,10 +62,10 @@ name-length-requires : tie.Need-name-length-requires
 name-length-requires c κs = search needs
 
 returns : tie.Need-returns
-returns c = (name-none Number (c .before .before .before .before .before .before .args .s .now) (rowOfPattern (c .before .before .before .before .before .before .args .s .now) (patternOf (c .before .before .before .before .before .before .args .layer))) (sym (ap rowAnswer (c .enum-told .given .1)) ∙ c .before .before .find-pattern .ensures ∙ ap (rowOfPattern (c .before .before .before .before .before .before .args .s .now)) (c .before .before .before .pattern .ensures ∙ ap patternOf (toZ-ofZ w16 (c .before .before .before .before .before .before .args .layer) (c .before .before .before .before .before .before .fits .layer)))), tt)
+returns c = (name-none Number (c .before .before .before .before .before .before .args .s .now) (rowOfPattern (c .before .before .before .before .before .before .args .s .now) (patternOf (c .before .before .before .before .before .before .args .layer))) (sym (ap rowAnswer (c .enum-told .given .1)) ∙ c .before .before .find-pattern .ensures ∙ ap (rowOfPattern (c .before .before .before .before .before .before .args .s .now)) (c .before .before .before .pattern .ensures ∙ ap patternOf (toZ-ofZ w16 (c .before .before .before .before .before .before .args .layer) (c .before .before .before .before .before .before .fits .layer)))), tt, tt)
 
 returns-2 : tie.Need-returns-2
-returns-2 c = let w : Counted Number Name (c .before .before .before .before .before .before .before .before .before .args .s .now) = counted Number Name true (c .before .before .before .before .before .before .before .before .before .args .s .now) (c .before .before .before .before .before .before .before .before .before .pre) in let below : (c .before .before .before .found .given .0 .0) < count (c .before .before .before .before .before .before .before .before .before .args .s .now) = layer-below (c .before .before .before .before .before .before .before .before .before .args .s .now) (c .before .before .before .before .before .before .pattern .result) (c .before .before .before .found .given .0 .0) (sym (ap rowAnswer (c .before .before .before .found .given .1)) ∙ c .before .before .before .before .before .find-pattern .ensures) in let room = run-room (count (c .before .before .before .before .before .before .before .before .before .args .s .now)) 32 (c .before .before .before .found .given .0 .0) below in let few : c .name-length .result ≤ 32 = omega (arith, c .name-length .ensures .1, lent-length (c .before .before .before .before .before .before .before .before .before .args .s .now) (2 + c .before .before .before .before .before .before .before .rows .result * 2 + (c .before .before .before .found .given .0 .0) * 32) 32 (omega (arith, c .before .before .before .before .before .before .before .rows .ensures))) in (name-some Number (c .before .before .before .before .before .before .before .before .before .args .s .now) (rowOfPattern (c .before .before .before .before .before .before .before .before .before .args .s .now) (patternOf (c .before .before .before .before .before .before .before .before .before .args .layer))) (c .before .before .before .found .given .0 .0) (2 + c .before .before .before .before .before .before .before .rows .result * 2 + (c .before .before .before .found .given .0 .0) * 32) (c .name-length .result) ((sym (ap rowAnswer (c .before .before .before .found .given .1)) ∙ c .before .before .before .before .before .find-pattern .ensures) ∙ ap (rowOfPattern (c .before .before .before .before .before .before .before .before .before .args .s .now)) (c .before .before .before .before .before .before .pattern .ensures ∙ ap patternOf (toZ-ofZ w16 (c .before .before .before .before .before .before .before .before .before .args .layer) (c .before .before .before .before .before .before .before .before .before .fits .layer)))) (ap (λ (k : ℕ). 2 + k * 2 + (c .before .before .before .found .given .0 .0) * 32) (c .before .before .before .before .before .before .before .rows .ensures)) (c .name-length .ensures .0 ∙ ap nameLength (part-lent (c .before .before .before .before .before .before .before .before .before .args .s .now) (2 + c .before .before .before .before .before .before .before .rows .result * 2 + (c .before .before .before .found .given .0 .0) * 32) 32)) few, omega (arith, c .before .before .before .before .before .before .before .rows .ensures))
+returns-2 c = let w : Counted Number Name (c .before .before .before .before .before .before .before .before .before .args .s .now) = counted Number Name true (c .before .before .before .before .before .before .before .before .before .args .s .now) (c .before .before .before .before .before .before .before .before .before .pre) in let below : (c .before .before .before .found .given .0 .0) < count (c .before .before .before .before .before .before .before .before .before .args .s .now) = layer-below (c .before .before .before .before .before .before .before .before .before .args .s .now) (c .before .before .before .before .before .before .pattern .result) (c .before .before .before .found .given .0 .0) (sym (ap rowAnswer (c .before .before .before .found .given .1)) ∙ c .before .before .before .before .before .find-pattern .ensures) in let room = run-room (count (c .before .before .before .before .before .before .before .before .before .args .s .now)) 32 (c .before .before .before .found .given .0 .0) below in let few : c .name-length .result ≤ 32 = omega (arith, c .name-length .ensures .1, lent-length (c .before .before .before .before .before .before .before .before .before .args .s .now) (2 + c .before .before .before .before .before .before .before .rows .result * 2 + (c .before .before .before .found .given .0 .0) * 32) 32 (omega (arith, c .before .before .before .before .before .before .before .rows .ensures))) in (name-some Number (c .before .before .before .before .before .before .before .before .before .args .s .now) (rowOfPattern (c .before .before .before .before .before .before .before .before .before .args .s .now) (patternOf (c .before .before .before .before .before .before .before .before .before .args .layer))) (c .before .before .before .found .given .0 .0) (2 + c .before .before .before .before .before .before .before .rows .result * 2 + (c .before .before .before .found .given .0 .0) * 32) (c .name-length .result) ((sym (ap rowAnswer (c .before .before .before .found .given .1)) ∙ c .before .before .before .before .before .find-pattern .ensures) ∙ ap (rowOfPattern (c .before .before .before .before .before .before .before .before .before .args .s .now)) (c .before .before .before .before .before .before .pattern .ensures ∙ ap patternOf (toZ-ofZ w16 (c .before .before .before .before .before .before .before .before .before .args .layer) (c .before .before .before .before .before .before .before .before .before .fits .layer)))) (ap (λ (k : ℕ). 2 + k * 2 + (c .before .before .before .found .given .0 .0) * 32) (c .before .before .before .before .before .before .before .rows .ensures)) (c .name-length .ensures .0 ∙ ap nameLength (part-lent (c .before .before .before .before .before .before .before .before .before .args .s .now) (2 + c .before .before .before .before .before .before .before .rows .result * 2 + (c .before .before .before .found .given .0 .0) * 32) 32)) few, omega (arith, c .before .before .before .before .before .before .before .rows .ensures), start-some Number Name (c .before .before .before .before .before .before .before .before .before .args .s .now) (rowOfPattern (c .before .before .before .before .before .before .before .before .before .args .s .now) (patternOf (c .before .before .before .before .before .before .before .before .before .args .layer))) (c .before .before .before .found .given .0 .0) (2 + c .before .before .before .before .before .before .before .rows .result * 2 + (c .before .before .before .found .given .0 .0) * 32) ((sym (ap rowAnswer (c .before .before .before .found .given .1)) ∙ c .before .before .before .before .before .find-pattern .ensures) ∙ ap (rowOfPattern (c .before .before .before .before .before .before .before .before .before .args .s .now)) (c .before .before .before .before .before .before .pattern .ensures ∙ ap patternOf (toZ-ofZ w16 (c .before .before .before .before .before .before .before .before .before .args .layer) (c .before .before .before .before .before .before .before .before .before .fits .layer)))) (ap (λ (k : ℕ). 2 + k * 2 + (c .before .before .before .found .given .0 .0) * 32) (c .before .before .before .before .before .before .before .rows .ensures)))
 
 pub find-layer-name-spec : {M : Type 1} → statement M
 find-layer-name-spec =

@@ -9,7 +9,7 @@ use Rattle.openrdson_core.specs.Bytes.{nameLength}
 use Rattle.openrdson_core.specs.Answers.{rowAnswer}
 use Rattle.openrdson_core.specs.Blocks.{count, rowOf}
 use Rattle.openrdson_core.specs.declared.blocks.Cell.the-variants.{Name}
-use Rattle.openrdson_core.proofs.BlockLaws.{Counted, counted, row-below}
+use Rattle.openrdson_core.proofs.BlockLaws.{Counted, counted, row-below, start-some}
 use Rattle.openrdson_core.proofs.MapLaws.{name-none, name-some}
 use mathlib.Core.Bool.{true}
 use Rattle.openrdson_core.proofs.maps.find_in_map.Statement.{statement}
@@ -55,10 +55,10 @@ name-length-requires : tie.Need-name-length-requires
 name-length-requires c κs = search needs
 
 returns : tie.Need-returns
-returns c = (name-none Name (c .before .before .before .before .before .before .args .s .now) (rowOf (c .before .before .before .before .before .before .args .s .now) (c .before .before .before .before .before .before .args .name .now)) (sym (ap rowAnswer (c .enum-told .given .1)) ∙ c .before .before .find-row .ensures), tt)
+returns c = (name-none Name (c .before .before .before .before .before .before .args .s .now) (rowOf (c .before .before .before .before .before .before .args .s .now) (c .before .before .before .before .before .before .args .name .now)) (sym (ap rowAnswer (c .enum-told .given .1)) ∙ c .before .before .find-row .ensures), tt, tt)
 
 returns-2 : tie.Need-returns-2
-returns-2 c = let w : Counted Name Name (c .before .before .before .before .before .before .before .before .before .args .s .now) = counted Name Name true (c .before .before .before .before .before .before .before .before .before .args .s .now) (c .before .before .before .before .before .before .before .before .before .pre) in let below : (c .before .before .before .found .given .0 .0) < count (c .before .before .before .before .before .before .before .before .before .args .s .now) = row-below (c .before .before .before .before .before .before .before .before .before .args .s .now) (c .before .before .before .before .before .before .before .before .before .args .name .now) (c .before .before .before .found .given .0 .0) (sym (ap rowAnswer (c .before .before .before .found .given .1)) ∙ c .before .before .before .before .before .find-row .ensures) in let room = run-room (count (c .before .before .before .before .before .before .before .before .before .args .s .now)) 32 (c .before .before .before .found .given .0 .0) below in let few : c .name-length .result ≤ 32 = omega (arith, c .name-length .ensures .1, lent-length (c .before .before .before .before .before .before .before .before .before .args .s .now) (2 + c .before .before .before .before .before .before .rows .result * 32 + (c .before .before .before .found .given .0 .0) * 32) 32 (omega (arith, c .before .before .before .before .before .before .rows .ensures))) in (name-some Name (c .before .before .before .before .before .before .before .before .before .args .s .now) (rowOf (c .before .before .before .before .before .before .before .before .before .args .s .now) (c .before .before .before .before .before .before .before .before .before .args .name .now)) (c .before .before .before .found .given .0 .0) (2 + c .before .before .before .before .before .before .rows .result * 32 + (c .before .before .before .found .given .0 .0) * 32) (c .name-length .result) (sym (ap rowAnswer (c .before .before .before .found .given .1)) ∙ c .before .before .before .before .before .find-row .ensures) (ap (λ (k : ℕ). 2 + k * 32 + (c .before .before .before .found .given .0 .0) * 32) (c .before .before .before .before .before .before .rows .ensures)) (c .name-length .ensures .0 ∙ ap nameLength (part-lent (c .before .before .before .before .before .before .before .before .before .args .s .now) (2 + c .before .before .before .before .before .before .rows .result * 32 + (c .before .before .before .found .given .0 .0) * 32) 32)) few, omega (arith, c .before .before .before .before .before .before .rows .ensures))
+returns-2 c = let w : Counted Name Name (c .before .before .before .before .before .before .before .before .before .args .s .now) = counted Name Name true (c .before .before .before .before .before .before .before .before .before .args .s .now) (c .before .before .before .before .before .before .before .before .before .pre) in let below : (c .before .before .before .found .given .0 .0) < count (c .before .before .before .before .before .before .before .before .before .args .s .now) = row-below (c .before .before .before .before .before .before .before .before .before .args .s .now) (c .before .before .before .before .before .before .before .before .before .args .name .now) (c .before .before .before .found .given .0 .0) (sym (ap rowAnswer (c .before .before .before .found .given .1)) ∙ c .before .before .before .before .before .find-row .ensures) in let room = run-room (count (c .before .before .before .before .before .before .before .before .before .args .s .now)) 32 (c .before .before .before .found .given .0 .0) below in let few : c .name-length .result ≤ 32 = omega (arith, c .name-length .ensures .1, lent-length (c .before .before .before .before .before .before .before .before .before .args .s .now) (2 + c .before .before .before .before .before .before .rows .result * 32 + (c .before .before .before .found .given .0 .0) * 32) 32 (omega (arith, c .before .before .before .before .before .before .rows .ensures))) in (name-some Name (c .before .before .before .before .before .before .before .before .before .args .s .now) (rowOf (c .before .before .before .before .before .before .before .before .before .args .s .now) (c .before .before .before .before .before .before .before .before .before .args .name .now)) (c .before .before .before .found .given .0 .0) (2 + c .before .before .before .before .before .before .rows .result * 32 + (c .before .before .before .found .given .0 .0) * 32) (c .name-length .result) (sym (ap rowAnswer (c .before .before .before .found .given .1)) ∙ c .before .before .before .before .before .find-row .ensures) (ap (λ (k : ℕ). 2 + k * 32 + (c .before .before .before .found .given .0 .0) * 32) (c .before .before .before .before .before .before .rows .ensures)) (c .name-length .ensures .0 ∙ ap nameLength (part-lent (c .before .before .before .before .before .before .before .before .before .args .s .now) (2 + c .before .before .before .before .before .before .rows .result * 32 + (c .before .before .before .found .given .0 .0) * 32) 32)) few, omega (arith, c .before .before .before .before .before .before .rows .ensures), start-some Name Name (c .before .before .before .before .before .before .before .before .before .args .s .now) (rowOf (c .before .before .before .before .before .before .before .before .before .args .s .now) (c .before .before .before .before .before .before .before .before .before .args .name .now)) (c .before .before .before .found .given .0 .0) (2 + c .before .before .before .before .before .before .rows .result * 32 + (c .before .before .before .found .given .0 .0) * 32) (sym (ap rowAnswer (c .before .before .before .found .given .1)) ∙ c .before .before .before .before .before .find-row .ensures) (ap (λ (k : ℕ). 2 + k * 32 + (c .before .before .before .found .given .0 .0) * 32) (c .before .before .before .before .before .before .rows .ensures)))
 
 pub find-in-map-spec : {M : Type 1} → statement M
 find-in-map-spec =

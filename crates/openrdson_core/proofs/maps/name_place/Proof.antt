@@ -3,7 +3,10 @@ use mathlib.Core.Path.{sym, ap, subst, _∙_}
 use borrow.Author.Needs.{needs}
 use borrow.Author.Tests.{not-true, not-false}
 use Rattle.lists.specs.Answer.{given}
-use Rattle.openrdson_core.specs.Maps.{lookup, isSome, spanned, spanWithin}
+use Rattle.openrdson_core.specs.Maps.{lookup, startInMap, spanned, spanWithin, spanFrom}
+use Rattle.openrdson_core.specs.Blocks.{rowOf}
+use Rattle.openrdson_core.specs.declared.blocks.Cell.the-variants.{Name}
+use Rattle.openrdson_core.proofs.MapLaws.{start-none}
 use Rattle.openrdson_core.proofs.maps.name_place.Statement.{statement}
 use Rattle.openrdson_core.proofs.maps.name_place.Tie as tie
 
@@ -29,7 +32,7 @@ enum-known-first c = search needs
 
 returns-3 : tie.Need-returns-3
 unfolding lookup
-returns-3 c = (rw (sym (c .before .before .before .before .before .before .before .is-map .ensures) ∙ not-false _ (c .before .before .before .before .before .before .if1 .left), sym (c .before .before .before .before .before .is-map2 .ensures) ∙ not-false _ (c .before .before .before .before .if2 .left), sym (sym (ap (spanned (c .before .before .before .before .before .before .before .before .before .before .before .args .conducting .now)) (c .before .first .given .1)) ∙ c .before .before .before .find-in-map .ensures .0)), subst (spanWithin (c .before .before .before .before .before .before .before .before .before .before .before .args .conducting .now)) (c .before .first .given .1) (c .before .before .before .find-in-map .ensures .1), sym (ap isSome (sym (ap (spanned (c .before .before .before .before .before .before .before .before .before .before .before .args .conducting .now)) (c .before .first .given .1)) ∙ c .before .before .before .find-in-map .ensures .0)))
+returns-3 c = (rw (sym (c .before .before .before .before .before .before .before .is-map .ensures) ∙ not-false _ (c .before .before .before .before .before .before .if1 .left), sym (c .before .before .before .before .before .is-map2 .ensures) ∙ not-false _ (c .before .before .before .before .if2 .left), sym (sym (ap (spanned (c .before .before .before .before .before .before .before .before .before .before .before .args .conducting .now)) (c .before .first .given .1)) ∙ c .before .before .before .find-in-map .ensures .0)), subst (spanWithin (c .before .before .before .before .before .before .before .before .before .before .before .args .conducting .now)) (c .before .first .given .1) (c .before .before .before .find-in-map .ensures .1), subst (spanFrom (startInMap (c .before .before .before .before .before .before .before .before .before .before .before .args .conducting .now) (c .before .before .before .before .before .before .before .before .before .before .before .args .name .now))) (c .before .first .given .1) (c .before .before .before .find-in-map .ensures .2))
 
 enum-told : tie.Need-enum-told
 enum-told c = search needs
@@ -42,7 +45,7 @@ enum-known-second c = search needs
 
 returns-4 : tie.Need-returns-4
 unfolding lookup
-returns-4 c = (rw (sym (c .before .before .before .before .before .before .before .before .before .before .is-map .ensures) ∙ not-false _ (c .before .before .before .before .before .before .before .before .before .if1 .left), sym (c .before .before .before .before .before .before .before .before .is-map2 .ensures) ∙ not-false _ (c .before .before .before .before .before .before .before .if2 .left), sym (sym (ap (spanned (c .before .before .before .before .before .before .before .before .before .before .before .before .before .before .args .conducting .now)) (c .before .before .before .before .enum-told .given .1)) ∙ c .before .before .before .before .before .before .find-in-map .ensures .0), sym (sym (ap (spanned (c .before .before .before .before .before .before .before .before .before .before .before .before .before .before .args .via .now)) (c .before .second .given .1)) ∙ c .before .before .before .find-in-map2 .ensures .0)), subst (spanWithin (c .before .before .before .before .before .before .before .before .before .before .before .before .before .before .args .via .now)) (c .before .second .given .1) (c .before .before .before .find-in-map2 .ensures .1), sym (ap isSome (sym (ap (spanned (c .before .before .before .before .before .before .before .before .before .before .before .before .before .before .args .conducting .now)) (c .before .before .before .before .enum-told .given .1)) ∙ c .before .before .before .before .before .before .find-in-map .ensures .0)))
+returns-4 c = (rw (sym (c .before .before .before .before .before .before .before .before .before .before .is-map .ensures) ∙ not-false _ (c .before .before .before .before .before .before .before .before .before .if1 .left), sym (c .before .before .before .before .before .before .before .before .is-map2 .ensures) ∙ not-false _ (c .before .before .before .before .before .before .before .if2 .left), sym (sym (ap (spanned (c .before .before .before .before .before .before .before .before .before .before .before .before .before .before .args .conducting .now)) (c .before .before .before .before .enum-told .given .1)) ∙ c .before .before .before .before .before .before .find-in-map .ensures .0), sym (sym (ap (spanned (c .before .before .before .before .before .before .before .before .before .before .before .before .before .before .args .via .now)) (c .before .second .given .1)) ∙ c .before .before .before .find-in-map2 .ensures .0)), subst (spanWithin (c .before .before .before .before .before .before .before .before .before .before .before .before .before .before .args .via .now)) (c .before .second .given .1) (c .before .before .before .find-in-map2 .ensures .1), (start-none Name (c .before .before .before .before .before .before .before .before .before .before .before .before .before .before .args .conducting .now) (rowOf (c .before .before .before .before .before .before .before .before .before .before .before .before .before .before .args .conducting .now) (c .before .before .before .before .before .before .before .before .before .before .before .before .before .before .args .name .now)) (sym (ap (spanned (c .before .before .before .before .before .before .before .before .before .before .before .before .before .before .args .conducting .now)) (c .before .before .before .before .enum-told .given .1)) ∙ c .before .before .before .before .before .before .find-in-map .ensures .0), subst (spanFrom (startInMap (c .before .before .before .before .before .before .before .before .before .before .before .before .before .before .args .via .now) (c .before .before .before .before .before .before .before .before .before .before .before .before .before .before .args .name .now))) (c .before .second .given .1) (c .before .before .before .find-in-map2 .ensures .2)))
 
 enum-told-2 : tie.Need-enum-told-2
 enum-told-2 c = search needs
