@@ -65,11 +65,17 @@ isHeight (refused n) x = false
 isHeight (given none) x = false
 isHeight (given (some f)) x = isFigure (f .height) x && isNone (f .thickness)
 
--- a name that was found and is this one, none found; the name of a via's layer, absent where it is empty; a via with these layers
+-- a name that was found and is this one, that was found and starts here, none found; the name of a via's layer, absent where it is empty; a via with these layers
 abbrev pub isName : Answer (Option (List ℕ)) → List ℕ → Bool
 isName (refused n) name = false
 isName (given none) name = false
 isName (given (some p)) name = same p name
+
+abbrev pub isStart : Answer (Option (List ℕ)) → Option ℕ → ℕ → Bool
+isStart (refused n) at start = false
+isStart (given none) at start = false
+isStart (given (some p)) none start = false
+isStart (given (some p)) (some k) start = eqb k start
 
 abbrev pub isNothing : {A : Type 0} → Answer (Option A) → Bool
 isNothing (refused n) = false

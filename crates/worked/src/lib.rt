@@ -24,6 +24,7 @@ pub use parts::layer_name_is;
 pub use parts::layer_name_refused;
 pub use parts::physical_name_is;
 pub use parts::place_is;
+pub use parts::place_starts;
 pub use parts::via_absent;
 pub use parts::via_is;
 pub use rings::area_is;

@@ -1,13 +1,14 @@
 // Calls whose answer is a part of a block: the bytes there, compared with what is expected.
 ghost use mathlib.Core.Path.{_≡_};
+ghost use mathlib.Core.Option.{orElse};
 ghost use Prim.Native.Nat.{_+_, _≤_};
 ghost use lib.ListN.{length};
 ghost use Rattle.lists.specs.Lists.{part};
 ghost use Rattle.openrdson_core.specs.Bytes.{same};
 ghost use Rattle.openrdson_core.specs.Layout.{layerName};
-ghost use Rattle.openrdson_core.specs.Maps.{lookup, partOf, spanned, spanWithin};
+ghost use Rattle.openrdson_core.specs.Maps.{lookup, partOf, spanned, spanWithin, startInMap};
 ghost use Rattle.openrdson_core.specs.Tech.{viaLayers};
-ghost use Rattle.worked.specs.Asked.{isName, isEnd, isVia, isRefused, isNothing};
+ghost use Rattle.worked.specs.Asked.{isName, isStart, isEnd, isVia, isRefused, isNothing};
 use openrdson_core::NamePart;
 use openrdson_core::NamePlace;
 use openrdson_core::Span;
@@ -64,6 +65,19 @@ pub fn place_is(conducting: &[u8], via: &[u8], asked: &[u8], name: &[u8]) -> boo
     match answer {
         NamePlace::Conducting(start, count) => part_is(conducting, start, count, name),
         NamePlace::Via(start, count) => part_is(via, start, count, name),
+        NamePlace::Nothing => false,
+        NamePlace::Refused(_) => false,
+    }
+}
+
+// The physical name stands in a map, and starts there.
+pub fn place_starts(conducting: &[u8], via: &[u8], asked: &[u8], start: usize) -> bool
+    ensures { λ r. ⌜ r ≡ isStart (lookup (now (conducting .entry)) (now (via .entry)) (now (asked .entry))) (orElse (startInMap (now (conducting .entry)) (now (asked .entry))) (startInMap (now (via .entry)) (now (asked .entry)))) start ⌝ }
+{
+    let answer = openrdson_core::name_place(conducting, via, asked);
+    match answer {
+        NamePlace::Conducting(at, _) => at == start,
+        NamePlace::Via(at, _) => at == start,
         NamePlace::Nothing => false,
         NamePlace::Refused(_) => false,
     }

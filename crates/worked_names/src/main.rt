@@ -1,9 +1,10 @@
-// Names in blocks: layer -2 is named a, the via v goes up from m and has no top, and maps of one row lead from a to b and from a to cc.
+// Names in blocks: layer -2 is named a, the via v goes up from m and has no top, maps of one row lead from a to b and from a to cc, and a map of two leads from a and b to c.
 use check::expect;
 use worked::layer_name_is;
 use worked::layer_name_refused;
 use worked::physical_name_is;
 use worked::place_is;
+use worked::place_starts;
 use worked::via_absent;
 use worked::via_is;
 
@@ -44,8 +45,22 @@ fn places() {
     expect(physical_name_is(&second, &first, b"a", b"cc"));
 }
 
+// The same physical name twice: each row's own.
+fn starts() {
+    let empty = [0, 0];
+    let mut twice = [0; 130];
+    twice[0] = 2;
+    twice[2] = 97;
+    twice[34] = 98;
+    twice[66] = 99;
+    twice[98] = 99;
+    expect(place_starts(&twice, &empty, b"b", 98));
+    expect(place_starts(&empty, &twice, b"a", 66));
+}
+
 fn main() {
     layers();
     vias();
     places();
+    starts();
 }
