@@ -1,5 +1,6 @@
 -- Answers: what a given answer tells of the tests before it, rows and maps taken past each other, and refusals numbered from 1 on. Assumes nothing.
 use mathlib.Core.Path.{_≡_, refl, sym, ap}
+use mathlib.Core.Logic.{_⊎_, inl, inr}
 use mathlib.Core.Bool.{Bool, true, false, cond}
 use Prim.Native.Nat.{ℕ, _≤_}
 use native.Mathlib.Omega.{arith}
@@ -63,3 +64,8 @@ module _ {A : Type 0} where
   pub map-numbered : {B : Type 0} (f : A → B) (a : Answer A) → Numbered a → Numbered (mapAnswer f a)
   map-numbered f (refused n) p k e = omega (arith, p n refl, ap status e)
   map-numbered f (given x) p k e = refused-given (sym e)
+
+-- a refusal is the row's, or comes after it
+pub unless-refused : {A : Type 0} (test : Bool) (n : ℕ) (rest : Answer A) {k : ℕ} → unless test n rest ≡ refused k → (k ≡ n) ⊎ (rest ≡ refused k)
+unless-refused true n rest e = inr e
+unless-refused false n rest e = inl (sym (ap status e))

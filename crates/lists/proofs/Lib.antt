@@ -7,6 +7,7 @@ pub mod Folds
 pub mod Scans
 pub mod Searches
 pub mod Places
+pub mod Stores
 pub mod Parts
 pub mod Counts
 pub mod Passing

@@ -173,3 +173,9 @@ between-back l at to new h g e =
     let rest = drop (to - at) (drop at l) in
     ap (take to) (sym (append-assoc (take at l) new rest))
     ∙ take-at (take at l ++ new) rest to (omega (arith, length-append (take at l) new, length-take-le at l (omega arith), e, length-take-le (to - at) (drop at l) (omega (arith, length-drop at l))))
+
+-- a part of a list's start
+pub part-of-start : {A : Type 0} (l : List A) (start count w : ℕ) → start + count ≤ w → part start count (take w l) ≡ part start count l
+part-of-start l start count w h =
+    let e : 0 + start ≡ start = omega arith in
+    part-of-part l 0 start count w h ∙ ap (λ (k : ℕ). part k count l) e

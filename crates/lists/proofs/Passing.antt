@@ -1,22 +1,23 @@
 -- The entries of a list that pass a test: which they are, how many, and whether all do. Assumes nothing.
-use mathlib.Core.Path.{_≡_, refl, sym, ap, _∙_}
+use mathlib.Core.Path.{_≡_, refl, sym, ap, _∙_, subst}
 use mathlib.Core.Bool.{Bool, true, false, not, _&&_, cond}
 use mathlib.Core.List.{List, [], _∷_, _++_, append-nil, append-assoc}
+use mathlib.Core.Logic.{⊎-elim}
 use Prim.Native.Nat.{ℕ, zero, suc, _+_, _-_, _≤_, _<_}
-use native.Mathlib.Nat.{not-suc-le-zero, le-of-suc-le-suc}
+use native.Mathlib.Nat.{not-suc-le-zero, le-of-suc-le-suc, eq-or-lt-of-le}
 use native.Mathlib.Numerals.{add-one}
 use native.Mathlib.Omega.{arith}
 use lib.Dec.{eqb, ltb}
-use lib.ListN.{length, getD, take, drop, set, length-append, length-set}
-use lib.Seq.{take-suc, take-suc-set, getD-set-other, drop-set-lt}
+use lib.ListN.{length, getD, take, drop, set, length-append, length-set, List·getD-append}
+use lib.Seq.{getD-at, take-suc, take-suc-set, getD-set-other, drop-set-lt}
 use borrow.Author.Tests.{ltb-true, ltb-false, lt-ltb, eq-eqb, ne-eqb}
 use Rattle.lists.specs.Counts.{bit, tally, SameEntries, occurs}
 use Rattle.lists.specs.Lists.{runs, elems, passing, allOf, Below}
 use Rattle.lists.proofs.Counts.{total-append, total-sum}
 use Rattle.lists.proofs.Scans.{both, and-false}
-use Rattle.lists.proofs.Fills.{elems-suc}
+use Rattle.lists.proofs.Fills.{elems-suc, elems-length}
 use Rattle.lists.proofs.Parts.{rest-at, rest-more, between-split, between-back}
-use Rattle.lists.proofs.Places.{below-more, below-wider}
+use Rattle.lists.proofs.Places.{below-more, below-wider, below-at}
 
 module _ {A : Type 0} where
   -- ---- counts
@@ -330,3 +331,42 @@ below-elems (suc n) = below-more (suc n) (elems n (λ i. i)) n (below-wider n (s
 
 pub below-passing-elems : (test : ℕ → Bool) (n : ℕ) → Below n (passing test (elems n (λ i. i)))
 below-passing-elems test n = below-passing n test (elems n (λ i. i)) (below-elems n)
+
+-- ---- the places that pass, one by one, and that they ascend
+
+-- one more place passes, or does not
+pub passing-suc : {A : Type 0} (test : A → Bool) (f : ℕ → A) (n : ℕ) → test (f n) ≡ true → passing test (elems (suc n) f) ≡ passing test (elems n f) ++ (f n ∷ [])
+passing-suc test f n h = ap (λ (k : ℕ). passing test (elems k f)) (sym (add-one n)) ∙ passing-more test f n h
+
+pub skipping-suc : {A : Type 0} (test : A → Bool) (f : ℕ → A) (n : ℕ) → test (f n) ≡ false → passing test (elems (suc n) f) ≡ passing test (elems n f)
+skipping-suc test f n h = ap (λ (k : ℕ). passing test (elems k f)) (sym (add-one n)) ∙ passing-skips test f n h
+
+-- every entry passes
+pub passing-each : {A : Type 0} (test : A → Bool) (f : ℕ → A) (n : ℕ) → ((i : ℕ) → i < n → test (f i) ≡ true) → passing test (elems n f) ≡ elems n f
+unfolding runs elems
+passing-each test f zero each = refl
+passing-each {A} test f (suc n) each =
+    passing-suc test f n (each n (omega arith)) ∙ ap (λ (l : List A). l ++ (f n ∷ [])) (passing-each test f n (λ i h. each i (omega arith)))
+
+-- numbers that ascend
+abbrev pub Ascends : List ℕ → Type 0
+Ascends l = (i j : ℕ) → i < j → j < length l → getD l i 0 < getD l j 0
+
+pub ascends-more : (l : List ℕ) (n : ℕ) → Below n l → Ascends l → Ascends (l ++ (n ∷ []))
+ascends-more l n b less i j h g =
+    let more = length-append l (n ∷ []) in
+    let m : j ≤ length l = omega (arith, g, more) in
+    let at-i : getD (l ++ (n ∷ [])) i 0 ≡ getD l i 0 = List·getD-append l (n ∷ []) 0 i (omega arith) in
+    ⊎-elim
+    (λ (e : j ≡ length l). omega (arith, at-i, getD-at l n [] 0 j (sym e), below-at n l i b (omega arith)))
+    (λ k. omega (arith, at-i, List·getD-append l (n ∷ []) 0 j k, less i j h k))
+    (eq-or-lt-of-le m)
+
+-- the places that pass
+pub passing-ascends : (test : ℕ → Bool) (n : ℕ) → Ascends (passing test (elems n (λ i. i)))
+passing-ascends test zero = λ i j h l. absurd (omega (arith, l, passing-most test (elems zero (λ i. i)), elems-length (λ i. i) zero))
+passing-ascends test (suc n) = step (test n) refl (passing-ascends test n)
+  where
+    step : (b : Bool) → test n ≡ b → Ascends (passing test (elems n (λ i. i))) → Ascends (passing test (elems (suc n) (λ i. i)))
+    step true t less = subst Ascends (sym (passing-suc test (λ i. i) n t)) (ascends-more (passing test (elems n (λ i. i))) n (below-passing-elems test n) less)
+    step false t less = subst Ascends (sym (skipping-suc test (λ i. i) n t)) less

@@ -1,7 +1,7 @@
 -- A loop that tests place after place: it goes on while the test holds, or notes whether it ever held.
 -- The invariant of the first is `allBelow i test ≡ true`, of the second `seen ≡ anyBelow i test`. Assumes nothing.
 use mathlib.Core.Path.{_≡_, refl, sym, ap, _∙_}
-use mathlib.Core.Bool.{Bool, true, false, _&&_, _||_}
+use mathlib.Core.Bool.{Bool, true, false, _&&_, _||_, true≢false}
 use mathlib.Core.Logic.{_⊎_, ⊎-elim}
 use Prim.Native.Nat.{ℕ, zero, suc, _+_, _<_}
 use native.Mathlib.Nat.{eq-or-lt-of-le, le-of-suc-le-suc}
@@ -102,3 +102,24 @@ pub any-same : (p q : ℕ → Bool) (n : ℕ) → ((i : ℕ) → i < n → p i �
 unfolding anyBelow
 any-same p q zero each = refl
 any-same p q (suc n) each = rw (any-same p q n (λ i l. each i (omega arith)), each n (omega arith))
+
+-- no place passes
+pub any-nowhere : (test : ℕ → Bool) (n : ℕ) → ((i : ℕ) → i < n → test i ≡ false) → anyBelow n test ≡ false
+unfolding anyBelow
+any-nowhere test zero each = refl
+any-nowhere test (suc n) each = rw (any-nowhere test n (λ i h. each i (omega arith)), each n (omega arith))
+
+-- some place passes
+pub any-some : (test : ℕ → Bool) (n : ℕ) → anyBelow n test ≡ true → (i : ℕ) × (i < n) × (test i ≡ true)
+unfolding anyBelow
+any-some test zero e = absurd (true≢false (sym e))
+any-some test (suc n) e = step (anyBelow n test) refl e (any-some test n)
+  where
+    step : (b : Bool) → anyBelow n test ≡ b → (b || test n) ≡ true → (anyBelow n test ≡ true → (i : ℕ) × (i < n) × (test i ≡ true)) → (i : ℕ) × (i < suc n) × (test i ≡ true)
+    step true f e before = let s = before f in (s .0, omega (arith, s .1), s .2)
+    step false f e before = (n, omega arith, e)
+
+-- three tests noted one after the other
+pub three-noted : (fine a b c : Bool) → (fine && a && b && c) ≡ (fine && (a && b && c))
+three-noted true a b c = refl
+three-noted false a b c = refl

@@ -1,9 +1,9 @@
 -- A loop that looks for the first place at which a test holds. Its invariant: `Searched test n i`, that none was found before place i.
 -- Assumes nothing.
 use mathlib.Core.Path.{_≡_, refl, sym, ap, _∙_}
-use mathlib.Core.Bool.{Bool, true, false, cond}
+use mathlib.Core.Bool.{Bool, true, false, cond, true≢false}
 use mathlib.Core.Logic.{⊎-elim}
-use mathlib.Core.Option.{some, none}
+use mathlib.Core.Option.{Option, some, none}
 use Prim.Native.Nat.{ℕ, zero, suc, _+_, _-_, _<_, _≤_}
 use native.Mathlib.Nat.{eq-or-lt-of-le}
 use native.Mathlib.Omega.{arith}
@@ -66,3 +66,28 @@ first-is test (suc n) i j e = at (test i) refl e (first-is test n (i + 1) j)
           holds = r .holds;
           earlier = λ l p q. ⊎-elim (λ (h : i ≡ l). ap test (sym h) ∙ t) (λ h. r .earlier l (omega arith) q) (eq-or-lt-of-le p);
         }
+
+-- a search that finds none passes no place
+pub first-none : (test : ℕ → Bool) (n i : ℕ) → first test n i ≡ none → (l : ℕ) → i ≤ l → l < i + n → test l ≡ false
+unfolding first
+first-none test zero i e l h g = absurd (omega arith)
+first-none test (suc n) i e l h g = step (test i) refl e (first-none test n (i + 1))
+  where
+    step : (b : Bool) → test i ≡ b → cond b (some i) (first test n (i + 1)) ≡ none
+        → (first test n (i + 1) ≡ none → (l : ℕ) → i + 1 ≤ l → l < i + 1 + n → test l ≡ false) → test l ≡ false
+    step true t e later = let z : _≡_ {A = ℕ} 0 1 = cc in absurd (omega arith)
+    step false t e later = ⊎-elim (λ (is : i ≡ l). ap test (sym is) ∙ t) (λ k. later e l (omega arith) (omega arith)) (eq-or-lt-of-le h)
+
+-- a search finds something where some place passes
+pub first-some : (test : ℕ → Bool) (n k : ℕ) → k < n → test k ≡ true → (j : ℕ) × (first test n 0 ≡ some j) × First test n 0 j
+first-some test n k l h = step (first test n 0) refl
+  where
+    step : (o : Option ℕ) → first test n 0 ≡ o → (j : ℕ) × (first test n 0 ≡ some j) × First test n 0 j
+    step none e = absurd (true≢false (sym h ∙ first-none test n 0 e k (omega arith) (omega arith)))
+    step (some j) e = (j, e, first-is test n 0 j e)
+
+-- tests that agree find the same
+pub first-same : (p q : ℕ → Bool) (n i : ℕ) → ((l : ℕ) → i ≤ l → l < i + n → p l ≡ q l) → first p n i ≡ first q n i
+unfolding first
+first-same p q zero i each = refl
+first-same p q (suc n) i each = rw (each i (omega arith) (omega arith), first-same p q n (i + 1) (λ l h g. each l (omega arith) (omega arith)))

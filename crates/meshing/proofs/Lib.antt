@@ -8,9 +8,7 @@ pub mod WalkLaws
 pub mod TriangulateLaws
 pub mod Demand
 pub mod Written
-pub mod Paper
 pub mod RingLaws
-pub mod Crossing
 pub mod EarLaws
 pub mod ClipLaws
 pub mod CellLaws
@@ -22,15 +20,9 @@ pub mod ScanlineLaws
 pub mod CrossingLaws
 pub mod LevelLaws
 pub mod Even
-pub mod WellFormed
 pub mod RectLaws
 pub mod PrismLaws
 pub mod ModelLaws
-pub mod ModelFormed
-pub mod RegionSome
-pub mod RefusalNumbers
-pub mod ModelMarks
 pub mod WholeLaws
 pub mod VolumeLaws
 pub mod WeldLaws
-pub mod Welded

@@ -1,30 +1,29 @@
 -- Welding: keys, which nodes are kept, new numbers, and what the calls answer. Assumes nothing.
-use Prim.Native.Nat.{ℕ, zero, suc, _+_, _≤_, _<_}
-use mathlib.Core.Path.{_≡_, refl, sym, ap, _∙_, subst}
-use mathlib.Core.Bool.{Bool, true, false, not, _&&_, _||_, cond, true≢false}
-use mathlib.Core.List.{List, [], _∷_, _++_, map, map-append}
-use mathlib.Core.Logic.{_⊎_, inl, inr, ⊎-elim}
+use Prim.Native.Nat.{ℕ, _+_, _≤_, _<_}
+use mathlib.Core.Path.{_≡_, refl, sym, ap, _∙_}
+use mathlib.Core.Bool.{Bool, true, false, not, _&&_, cond}
+use mathlib.Core.List.{List, [], _∷_, _++_, map}
+use mathlib.Core.Logic.{_⊎_, inl, inr}
 use mathlib.Core.Option.{Option, some, none}
-use native.Mathlib.Nat.{eq-or-lt-of-le, le-refl}
-use native.Mathlib.Numerals.{add-one}
+use native.Mathlib.Nat.{eq-or-lt-of-le}
 use native.Mathlib.Omega.{arith}
 use mir.Syntax.{w64}
 use mir.Val.{ofZ, toZ, SFits}
 use mir.ValLaws.{toZ-ofZ}
 use lib.Dec.{eqb, leb, ltb}
 use lib.IntN.{ℤ, pos, negsuc}
-use lib.ListN.{length, getD, take, set, length-append, length-set, List·getD-append}
-use lib.Seq.{getD-at, take-suc, take-length}
+use lib.ListN.{length, getD, set, length-append}
 use lib.Ieee.{Float, nan}
 use borrow.Author.Tests.{not-true, not-false, eqb-true, eqb-false, eq-eqb, ne-eqb, ltb-true, ltb-false, lt-ltb, le-ltb, leb-true, le-leb, lt-leb}
 use Rattle.lists.specs.Answer.{Answer, refused, given}
-use Rattle.lists.specs.Lists.{put, runs, elems, gather, passing, Below, anyBelow, first}
-use Rattle.lists.proofs.Fills.{put-none, put-set, put-start, elems-length}
-use Rattle.lists.proofs.Passing.{passing-more, passing-skips, passing-grows, passing-most, below-passing-elems}
-use Rattle.lists.proofs.Places.{gather-length, below-at}
+use Rattle.lists.specs.Lists.{put, runs, elems, gather, passing, anyBelow, first}
+use Rattle.lists.proofs.Fills.{elems-length}
+use Rattle.lists.proofs.Passing.{passing-more, passing-skips, passing-grows, passing-most}
+use Rattle.lists.proofs.Places.{gather-length}
 use Rattle.lists.proofs.Answers.{passed}
-use Rattle.lists.proofs.Scans.{both, and-false, any-holds}
-use Rattle.lists.proofs.Searches.{Searched, search-start, search-found, search-more, search-end, First, first-is}
+use Rattle.lists.proofs.Scans.{both, and-false, any-holds, any-nowhere}
+use Rattle.lists.proofs.Searches.{Searched, search-start, search-found, search-more, search-end, First, first-is, first-none, first-same}
+use Rattle.lists.proofs.Stores.{map-at, Gathered, gather-start, gather-more, gather-stays}
 use Rattle.binary64.specs.Numbers.{_⊘_, at, atMost}
 use Rattle.binary64.specs.Rounding.{nearestCapped}
 use Rattle.openrdson_core.specs.Refusals.{refusalNumber}
@@ -38,134 +37,6 @@ use Rattle.meshing.specs.declared.boxes.Meshed.the-variants as meshed
 use Rattle.meshing.specs.declared.weld.Key.{Key}
 use Rattle.meshing.specs.Whole.{nodesIn, elementsFault, meshFault}
 use Rattle.meshing.specs.Welds as spec
-
--- ---- searches, maps and gathered lists
-
--- a search that finds none passes no place
-pub first-none : (test : ℕ → Bool) (n i : ℕ) → first test n i ≡ none → (l : ℕ) → i ≤ l → l < i + n → test l ≡ false
-unfolding first
-first-none test zero i e l h g = absurd (omega arith)
-first-none test (suc n) i e l h g = step (test i) refl e (first-none test n (i + 1))
-  where
-    step : (b : Bool) → test i ≡ b → cond b (some i) (first test n (i + 1)) ≡ none
-        → (first test n (i + 1) ≡ none → (l : ℕ) → i + 1 ≤ l → l < i + 1 + n → test l ≡ false) → test l ≡ false
-    step true t e later = let z : _≡_ {A = ℕ} 0 1 = cc in absurd (omega arith)
-    step false t e later = ⊎-elim (λ (is : i ≡ l). ap test (sym is) ∙ t) (λ k. later e l (omega arith) (omega arith)) (eq-or-lt-of-le h)
-
--- a search finds something where some place passes
-pub first-some : (test : ℕ → Bool) (n k : ℕ) → k < n → test k ≡ true → (j : ℕ) × (first test n 0 ≡ some j) × First test n 0 j
-first-some test n k l h = step (first test n 0) refl
-  where
-    step : (o : Option ℕ) → first test n 0 ≡ o → (j : ℕ) × (first test n 0 ≡ some j) × First test n 0 j
-    step none e = absurd (true≢false (sym h ∙ first-none test n 0 e k (omega arith) (omega arith)))
-    step (some j) e = (j, e, first-is test n 0 j e)
-
--- tests that agree find the same
-pub first-same : (p q : ℕ → Bool) (n i : ℕ) → ((l : ℕ) → i ≤ l → l < i + n → p l ≡ q l) → first p n i ≡ first q n i
-unfolding first
-first-same p q zero i each = refl
-first-same p q (suc n) i each = rw (each i (omega arith) (omega arith), first-same p q n (i + 1) (λ l h g. each l (omega arith) (omega arith)))
-
--- no place passes
-pub any-nowhere : (test : ℕ → Bool) (n : ℕ) → ((i : ℕ) → i < n → test i ≡ false) → anyBelow n test ≡ false
-unfolding anyBelow
-any-nowhere test zero each = refl
-any-nowhere test (suc n) each = rw (any-nowhere test n (λ i h. each i (omega arith)), each n (omega arith))
-
--- some place passes
-pub any-some : (test : ℕ → Bool) (n : ℕ) → anyBelow n test ≡ true → (i : ℕ) × (i < n) × (test i ≡ true)
-unfolding anyBelow
-any-some test zero e = absurd (true≢false (sym e))
-any-some test (suc n) e = step (anyBelow n test) refl e (any-some test n)
-  where
-    step : (b : Bool) → anyBelow n test ≡ b → (b || test n) ≡ true → (anyBelow n test ≡ true → (i : ℕ) × (i < n) × (test i ≡ true)) → (i : ℕ) × (i < suc n) × (test i ≡ true)
-    step true f e before = let s = before f in (s .0, omega (arith, s .1), s .2)
-    step false f e before = (n, omega arith, e)
-
--- one more place passes, or does not
-pub passing-suc : {A : Type 0} (test : A → Bool) (f : ℕ → A) (n : ℕ) → test (f n) ≡ true → passing test (elems (suc n) f) ≡ passing test (elems n f) ++ (f n ∷ [])
-passing-suc test f n h = ap (λ (k : ℕ). passing test (elems k f)) (sym (add-one n)) ∙ passing-more test f n h
-
-pub skipping-suc : {A : Type 0} (test : A → Bool) (f : ℕ → A) (n : ℕ) → test (f n) ≡ false → passing test (elems (suc n) f) ≡ passing test (elems n f)
-skipping-suc test f n h = ap (λ (k : ℕ). passing test (elems k f)) (sym (add-one n)) ∙ passing-skips test f n h
-
--- every entry passes
-pub passing-each : {A : Type 0} (test : A → Bool) (f : ℕ → A) (n : ℕ) → ((i : ℕ) → i < n → test (f i) ≡ true) → passing test (elems n f) ≡ elems n f
-unfolding runs elems
-passing-each test f zero each = refl
-passing-each {A} test f (suc n) each =
-    passing-suc test f n (each n (omega arith)) ∙ ap (λ (l : List A). l ++ (f n ∷ [])) (passing-each test f n (λ i h. each i (omega arith)))
-
--- numbers that ascend
-abbrev pub Ascends : List ℕ → Type 0
-Ascends l = (i j : ℕ) → i < j → j < length l → getD l i 0 < getD l j 0
-
-pub ascends-more : (l : List ℕ) (n : ℕ) → Below n l → Ascends l → Ascends (l ++ (n ∷ []))
-ascends-more l n b less i j h g =
-    let more = length-append l (n ∷ []) in
-    let m : j ≤ length l = omega (arith, g, more) in
-    let at-i : getD (l ++ (n ∷ [])) i 0 ≡ getD l i 0 = List·getD-append l (n ∷ []) 0 i (omega arith) in
-    ⊎-elim
-    (λ (e : j ≡ length l). omega (arith, at-i, getD-at l n [] 0 j (sym e), below-at n l i b (omega arith)))
-    (λ k. omega (arith, at-i, List·getD-append l (n ∷ []) 0 j k, less i j h k))
-    (eq-or-lt-of-le m)
-
--- the places that pass
-pub passing-ascends : (test : ℕ → Bool) (n : ℕ) → Ascends (passing test (elems n (λ i. i)))
-passing-ascends test zero = λ i j h l. absurd (omega (arith, l, passing-most test (elems zero (λ i. i)), elems-length (λ i. i) zero))
-passing-ascends test (suc n) = step (test n) refl (passing-ascends test n)
-  where
-    step : (b : Bool) → test n ≡ b → Ascends (passing test (elems n (λ i. i))) → Ascends (passing test (elems (suc n) (λ i. i)))
-    step true t less = subst Ascends (sym (passing-suc test (λ i. i) n t)) (ascends-more (passing test (elems n (λ i. i))) n (below-passing-elems test n) less)
-    step false t less = subst Ascends (sym (skipping-suc test (λ i. i) n t)) less
-
--- an entry of a list that f was put on
-pub map-at : {A B : Type 0} (f : A → B) (l : List A) (i : ℕ) (a : A) (b : B) → i < length l → getD (map f l) i b ≡ f (getD l i a)
-map-at f [] i a b h = absurd (omega arith)
-map-at f (x ∷ l) zero a b h = refl
-map-at f (x ∷ l) (suc i) a b h = map-at f l i a b (omega arith)
-
--- f of the entries, one by one
-maps : {A B : Type 0} (f : A → B) (other : A) (l : List A) (n : ℕ) → n ≤ length l → elems n (λ i. f (getD l i other)) ≡ map f (take n l)
-unfolding runs elems
-maps f other l zero h = refl
-maps f other l (suc n) h = rw (take-suc l n other h, map-append, maps f other l n (omega arith))
-
-pub map-elems : {A B : Type 0} (f : A → B) (other : A) (l : List A) → elems (length l) (λ i. f (getD l i other)) ≡ map f l
-map-elems f other l = maps f other l (length l) (le-refl (length l)) ∙ ap (map f) (take-length l)
-
--- f changes no entry
-pub map-none : {A : Type 0} (f : A → A) (l : List A) → ((a : A) → f a ≡ a) → map f l ≡ l
-map-none f [] each = refl
-map-none {A} f (a ∷ l) each = ap (λ (x : A). x ∷ map f l) (each a) ∙ ap (λ (r : List A). a ∷ r) (map-none f l each)
-
--- a loop that stores the entries at places after each other: what it has stored of l is that at the places ks
-pub record Gathered {A : Type 0} (other : A) (l old : List A) (ks : List ℕ) (now : List A) : Type 0 where
-  pub is : now ≡ put old 0 (gather other l ks)
-  pub long : length now ≡ length old
-
-module _ {A : Type 0} (other : A) (l old : List A) where
-  pub gather-start : (ks : List ℕ) → ks ≡ [] → Gathered other l old ks old
-  gather-start ks e = record { is = sym (put-none old 0) ∙ ap (λ (k : List ℕ). put old 0 (gather other l k)) (sym e); long = refl }
-
-  pub gather-more : {ks more : List ℕ} {now : List A} (i count : ℕ) → Gathered other l old ks now → more ≡ ks ++ (i ∷ []) → count ≡ length ks → count < length old
-      → Gathered other l old more (set now count (getD l i other))
-  gather-more {ks} {more} {now} i count g e c room =
-      record {
-        is =
-            ap (λ (k : List A). set k count (getD l i other)) (g .is)
-            ∙ put-set old 0 (gather other l ks) count (getD l i other) (omega (arith, gather-length other l ks)) room
-            ∙ ap (put old 0) (sym (map-append (λ k. getD l k other) ks (i ∷ [])))
-            ∙ ap (λ (k : List ℕ). put old 0 (gather other l k)) (sym e);
-        long = length-set now count (getD l i other) ∙ g .long;
-      }
-
-  -- what is stored, at the start of the list
-  pub gather-front : (ks : List ℕ) {now : List A} {n : ℕ} → now ≡ put old 0 (gather other l ks) → n ≡ length ks → take n now ≡ gather other l ks
-  gather-front ks e f = put-start old (gather other l ks) e (f ∙ sym (gather-length other l ks))
-
-  pub gather-stays : {ks more : List ℕ} {now : List A} → Gathered other l old ks now → more ≡ ks → Gathered other l old more now
-  gather-stays {ks} g e = record { is = g .is ∙ ap (λ (k : List ℕ). put old 0 (gather other l k)) (sym e); long = g .long }
 
 -- ---- keys
 

@@ -1,6 +1,6 @@
 -- Laws of the checks that a mesh passes before it is welded or measured. Assumes nothing.
-use Prim.Native.Nat.{ℕ, _+_, _*_, _≤_, _<_}
-use mathlib.Core.Path.{_≡_, refl, sym, ap, _∙_}
+use Prim.Native.Nat.{ℕ, _*_, _≤_, _<_}
+use mathlib.Core.Path.{_≡_, sym, ap, _∙_}
 use mathlib.Core.Bool.{Bool, true, false, _&&_}
 use mathlib.Core.List.{List}
 use mathlib.Core.Logic.{_⊎_, inl, inr, ⊎-elim}
@@ -10,10 +10,10 @@ use lib.ListN.{length, take, getD}
 use lib.Seq.{length-take-le, getD-take}
 use lib.Ieee.{Float}
 use borrow.Author.Tests.{leb-true, eq-eqb}
-use Rattle.lists.specs.Answer.{Answer, refused, given, unless, status}
+use Rattle.lists.specs.Answer.{refused, given, unless}
 use Rattle.lists.specs.Lists.{allBelow, part}
-use Rattle.lists.proofs.Answers.{passed, refused-given}
-use Rattle.lists.proofs.Parts.{part-of-part}
+use Rattle.lists.proofs.Answers.{passed, refused-given, unless-refused}
+use Rattle.lists.proofs.Parts.{part-of-start}
 use Rattle.lists.proofs.Scans.{both, all-fails, all-at, all-from}
 use Rattle.binary64.specs.Numbers.{at, atMost}
 use Rattle.openrdson_core.specs.Mesh.{Mesh, parallelLengths, parallel, kindOf, usedPlaces, soundElement, insideElement, wellFormed}
@@ -23,21 +23,6 @@ use Rattle.openrdson_core.specs.declared.points.Check.{Check}
 use Rattle.openrdson_core.specs.declared.points.Check.the-variants as check
 use Rattle.openrdson_core.proofs.MeshLaws.{Lengths, equal-lengths, counts-in, place-below, well-formed}
 use Rattle.meshing.specs.Whole.{nodesIn, elementsFault, meshFault, upTo}
-
--- ---- tests noted one after the other, a row that may turn a call down, a part of a list's start
-
-pub three-noted : (fine a b c : Bool) → (fine && a && b && c) ≡ (fine && (a && b && c))
-three-noted true a b c = refl
-three-noted false a b c = refl
-
-pub unless-refused : {A : Type 0} (test : Bool) (n : ℕ) (rest : Answer A) {k : ℕ} → unless test n rest ≡ refused k → (k ≡ n) ⊎ (rest ≡ refused k)
-unless-refused true n rest e = inr e
-unless-refused false n rest e = inl (sym (ap status e))
-
-pub part-of-start : {A : Type 0} (l : List A) (start count w : ℕ) → start + count ≤ w → part start count (take w l) ≡ part start count l
-part-of-start l start count w h =
-    let e : 0 + start ≡ start = omega arith in
-    part-of-part l 0 start count w h ∙ ap (λ (k : ℕ). part k count l) e
 
 -- ---- nodes in range
 

@@ -17,7 +17,6 @@ pub mod Scanline
 pub mod Prisms
 pub mod Regions
 pub mod Models
-pub mod Paper
 pub mod Whole
 pub mod Volumes
 pub mod Welds

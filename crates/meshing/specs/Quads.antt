@@ -10,6 +10,10 @@ use Rattle.meshing.specs.declared.quads.Quad.{Quad}
 use Rattle.meshing.specs.Levels.{Band, levels, bandsOf, middle}
 use Rattle.meshing.specs.Crossings.{edgeAt, crossings}
 
+-- a quad, by a name that crates above can say
+abbrev pub Trapezoid : Type 0
+Trapezoid = Quad
+
 -- the computed area: half the sum of the cross products of the triangles a b c and a c d
 unfoldable pub quadArea : Quad → Float
 quadArea q =

@@ -27,6 +27,10 @@ same (pos a) (negsuc b) = false
 same (negsuc a) (pos b) = false
 same (negsuc a) (negsuc b) = eqb a b
 
+-- a node's key, by a name that crates above can say
+abbrev pub NodeKey : Type 0
+NodeKey = Key
+
 unfoldable pub sameKey : Key → Key → Bool
 sameKey a b = same (a .x) (b .x) && same (a .y) (b .y) && same (a .z) (b .z)
 

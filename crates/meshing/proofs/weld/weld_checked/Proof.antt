@@ -3,10 +3,11 @@ use native.Mathlib.Omega.{arith}
 use mathlib.Core.Path.{sym}
 use lib.Ieee.{nan}
 use lib.Seq.{length-take-le}
+use Rattle.lists.proofs.Stores.{gather-front}
 use Rattle.openrdson_core.specs.Mesh.{theMesh}
 use Rattle.openrdson_core.specs.declared.refusals.Refusal.the-variants as refusal
 use Rattle.meshing.specs.Welds.{kept}
-use Rattle.meshing.proofs.WeldLaws.{weld-refused, few-kinds, few-nodes, weld-done, gather-front}
+use Rattle.meshing.proofs.WeldLaws.{weld-refused, few-kinds, few-nodes, weld-done}
 use borrow.Author.Needs.{needs}
 use Rattle.meshing.proofs.weld.weld_checked.Statement.{statement}
 use Rattle.meshing.proofs.weld.weld_checked.Tie as tie

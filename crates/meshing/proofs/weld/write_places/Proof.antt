@@ -6,8 +6,8 @@ use mathlib.Core.Path.{ap, _∙_}
 use lib.ListN.{length, getD}
 use Rattle.lists.specs.Lists.{put}
 use Rattle.lists.proofs.Fills.{Elems, no-elems, one-elem, all-elems}
+use Rattle.lists.proofs.Stores.{map-elems}
 use Rattle.meshing.specs.Welds as spec
-use Rattle.meshing.proofs.WeldLaws.{map-elems}
 use Rattle.meshing.proofs.weld.write_places.Statement.{statement}
 use Rattle.meshing.proofs.weld.write_places.Tie as tie
 

@@ -5,9 +5,9 @@ use borrow.Author.Needs.{needs}
 use mathlib.Core.Path.{_≡_, sym, ap, _∙_}
 use lib.ListN.{length}
 use Rattle.lists.specs.Lists.{allBelow}
-use Rattle.lists.proofs.Scans.{all-start, all-noted}
+use Rattle.lists.proofs.Scans.{all-start, all-noted, three-noted}
 use Rattle.meshing.specs.Whole.{nodesIn}
-use Rattle.meshing.proofs.WholeLaws.{nodeIn, three-noted}
+use Rattle.meshing.proofs.WholeLaws.{nodeIn}
 use Rattle.meshing.proofs.whole.nodes_in_range.Statement.{statement}
 use Rattle.meshing.proofs.whole.nodes_in_range.Tie as tie
 

@@ -20,15 +20,15 @@ use Rattle.openrdson_core.specs.Mesh.{Mesh, wellFormed}
 use Rattle.openrdson_core.specs.declared.mesh.Counts.{Counts}
 use Rattle.openrdson_core.proofs.MeshLaws.{well-formed, equal-lengths}
 use Rattle.geometry.specs.Regions.{Regions, regionAt}
 use Rattle.meshing.specs.declared.cells.MeshConfig.{MeshConfig}
 use Rattle.meshing.specs.Added.{Part, grown, added}
 use Rattle.meshing.specs.Regions.{meshRegion}
 use Rattle.meshing.specs.Models.{Overrides, configFor, Run, rowPart, tried, runTo, meshModel, appendedRegions}
-use Rattle.meshing.proofs.WellFormed.{region-fits, part-room}
-use Rattle.meshing.proofs.RegionSome.{region-some}
-use Rattle.meshing.proofs.RefusalNumbers.{row-numbered}
-use Rattle.meshing.proofs.ModelFormed.{run-well-formed}
+use Rattle.theorems.proofs.WellFormed.{region-fits, part-room}
+use Rattle.theorems.proofs.RegionSome.{region-some}
+use Rattle.theorems.proofs.RefusalNumbers.{row-numbered}
+use Rattle.theorems.proofs.ModelFormed.{run-well-formed}
 use Rattle.meshing.proofs.ModelLaws.{jobJudged, model-is}
 
 -- ---- the runs
 

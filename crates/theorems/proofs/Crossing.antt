@@ -1,13 +1,12 @@
 -- On points in range every cross product of the ear rule is a number. So the Rust, which skips a vertex whose cross product is at most zero, skips exactly those where it is not above zero.
 -- Assumes nothing.
-use mathlib.Core.Path.{_≡_, refl}
-use mathlib.Core.Bool.{Bool, true, false, not}
+use mathlib.Core.Path.{_≡_}
+use mathlib.Core.Bool.{true, false, not}
 use mathlib.Core.List.{List}
 use Prim.Native.Nat.{ℕ, _<_}
 use native.Mathlib.Omega.{arith}
-use lib.IntN.{pos}
 use lib.ListN.{length}
-use lib.Ieee.{Float, nan, inf, fin, isNan, lt, le, ofBits}
+use lib.Ieee.{Float, isNan, lt, le}
 use Rattle.lists.proofs.Scans.{all-at}
 use Rattle.binary64.specs.Constants.{zero64}
 use Rattle.binary64.specs.Numbers.{_⊖_, _⊗_, atMost}

@@ -11,13 +11,13 @@ use Rattle.lists.proofs.Answers.{passed-then, given-same}
 use Rattle.openrdson_core.specs.Mesh.{Mesh, wellFormed}
 use Rattle.openrdson_core.specs.declared.mesh.Counts.{Counts}
 use Rattle.geometry.specs.Regions.{Regions, regionAt}
 use Rattle.meshing.specs.declared.boxes.Meshed.{Meshed}
 use Rattle.meshing.specs.declared.cells.MeshConfig.{MeshConfig}
 use Rattle.meshing.specs.Added.{Part, grown, added, meshedAnswer}
 use Rattle.meshing.specs.Regions.{meshRegion}
 use Rattle.meshing.specs.Models.{Overrides, configFor, Run, rowPart, tried, runTo, meshModel, ModelAs}
-use Rattle.meshing.proofs.WellFormed.{region-well-formed}
+use Rattle.theorems.proofs.WellFormed.{region-well-formed}
 use Rattle.meshing.proofs.ModelLaws.{jobJudged, model-is}
 
 module _ (r : Regions) (px py : List Float) (o : Overrides) (default : MeshConfig) where
   -- a region that is tried

@@ -36,22 +36,22 @@ use Rattle.openrdson_core.specs.declared.bounds.Bbox.{Bbox}
 use Rattle.openrdson_core.specs.declared.solids.Solid.{Solid}
 use Rattle.openrdson_core.specs.declared.solids.Solid.the-variants.{Box, Prism}
 use Rattle.openrdson_core.proofs.MeshLaws.{equal-lengths, room-for, rest-start, first-wider, Valid, WellFormed, well-formed, formed-well}
 use Rattle.meshing.specs.declared.boxes.Meshed.{Meshed}
 use Rattle.meshing.specs.declared.cells.MeshConfig.{MeshConfig}
-use Rattle.meshing.specs.declared.quads.Quad.{Quad}
 use Rattle.meshing.specs.Added.{Part, grown, added, fitPart, meshedAnswer, Adds, elementAppended, PartSound}
 use Rattle.meshing.specs.Grid.{gridNodes, gridCells, hexPlaces}
 use Rattle.meshing.specs.Boxes.{Axis, coordinate, boxPart, meshBox, BoxCells, boxOfCells, boxJudged}
 use Rattle.meshing.specs.Ring.{kept, gathered}
 use Rattle.meshing.specs.Triangles.{Triangle, tri, corners}
 use Rattle.meshing.specs.Ears.{trianglesOf}
 use Rattle.meshing.specs.Rectilinear.{isRectilinear}
+use Rattle.meshing.specs.Quads.{Trapezoid}
 use Rattle.meshing.specs.Scanline.{scanlineOf, quadXs, quadYs, quadZs, quadPlaces, quadsPart}
 use Rattle.meshing.specs.Prisms.{prismPlaces, trianglesPart, trianglesOr, ringPart, prismPart, meshPrism}
 use Rattle.meshing.specs.Regions.{meshRegion}
 use Rattle.meshing.proofs.BoxLaws.{box-judged, judged-fits}
 use Rattle.meshing.proofs.Demand.{triangles-triangulation}
 use Rattle.meshing.proofs.GridLaws.{grid-length, hexes-length, hexes-below, hexes-from}
 
 -- ---- an element that is appended
 
@@ -125,7 +125,7 @@ box-sound base x y z =
 
 -- ---- quads
 
-module _ (base : ℕ) (z0 z1 : Float) (qs : List Quad) where
+module _ (base : ℕ) (z0 z1 : Float) (qs : List Trapezoid) where
   abbrev quadRun : ℕ → List ℕ
   quadRun i = quadPlaces (base + i * 8)
 
@@ -363,12 +363,12 @@ module _ (b : Bbox) (z0 z1 : Float) (material : ℕ) (config : MeshConfig) (c : 
   box-accepted e = box-decided judged refl (sym (box-judged b z0 z1 material config c m) ∙ e)
 
 module _ (base : ℕ) (z0 z1 : Float) (p : Part) where
-  scanned-sound : (a : Answer (List Quad)) → mapAnswer (quadsPart base z0 z1) a ≡ given p → PartSound base p
+  scanned-sound : (a : Answer (List Trapezoid)) → mapAnswer (quadsPart base z0 z1) a ≡ given p → PartSound base p
   scanned-sound (refused n) e = refused-given e
   scanned-sound (given qs) e = subst (PartSound base) (given-same e) (quads-sound base z0 z1 qs)
 
   -- clipping gives triangles on the ring's vertices
-  clipped-sound : (xs ys : List Float) → length ys ≡ length xs → (a : Answer (List Triangle)) (b : Answer (List Quad)) → trianglesOf xs ys ≡ a
+  clipped-sound : (xs ys : List Float) → length ys ≡ length xs → (a : Answer (List Triangle)) (b : Answer (List Trapezoid)) → trianglesOf xs ys ≡ a
       → trianglesOr base z0 z1 xs ys a (mapAnswer (quadsPart base z0 z1) b) ≡ given p → PartSound base p
   clipped-sound xs ys same (refused n) b e f = scanned-sound b f
   clipped-sound xs ys same (given ts) b e f =

@@ -21,23 +21,24 @@ use lib.Seq.{getD-at}
 use borrow.Author.Tests.{not-true, not-false, lt-ltb, ltb-true, ltb-false, eq-eqb, eqb-true, le-leb}
 use Rattle.lists.specs.Answer.{Answer, refused, given, andThen, status}
 use Rattle.lists.specs.Lists.{elems, gather, Below, allBelow, part}
-use Rattle.lists.proofs.Answers.{refused-given, passed, passed-then, given-same}
+use Rattle.lists.proofs.Answers.{refused-given, passed, passed-then, given-same, unless-refused}
 use Rattle.lists.proofs.Fills.{elems-length, elems-at}
 use Rattle.lists.proofs.Parts.{part-at}
-use Rattle.lists.proofs.Passing.{below-passing-elems, passing-all, allOf-at}
+use Rattle.lists.proofs.Passing.{below-passing-elems, passing-all, allOf-at, Ascends, passing-suc, skipping-suc, passing-each, passing-ascends}
 use Rattle.lists.proofs.Places.{gather-length, gather-all}
-use Rattle.lists.proofs.Scans.{both, all-at, all-from, any-holds}
+use Rattle.lists.proofs.Scans.{both, all-at, all-from, any-holds, any-some, any-nowhere}
+use Rattle.lists.proofs.Searches.{first-some}
+use Rattle.lists.proofs.Stores.{map-at, map-none}
 use Rattle.binary64.specs.Numbers.{atMost}
 use Rattle.openrdson_core.specs.Mesh.{Mesh, theMesh, theCounts, unused, kindOf, known, usedPlaces, restUnused, firstBelow, soundElement, insideElement, parallelLengths, parallel, withinLengths, wellFormed}
 use Rattle.openrdson_core.specs.declared.mesh.ElementType.{ElementType}
 use Rattle.openrdson_core.proofs.MeshLaws.{Lengths, equal-lengths, used-most, place-below, Valid, formed-well}
-use Rattle.meshing.specs.declared.weld.Key.{Key}
 use Rattle.openrdson_core.specs.declared.mesh.Counts.{Counts}
 use Rattle.meshing.specs.Whole.{elementsFault, meshFault, upTo}
 use Rattle.meshing.specs.Volumes.{meshVolume}
-use Rattle.meshing.specs.Welds.{sameKey, foundOr, keyAt, isFirst, kept, newNumber, renumbered, welded, roomFor, fitWelded, weldNodes}
-use Rattle.meshing.proofs.WholeLaws.{unless-refused, up-never}
-use Rattle.meshing.proofs.WeldLaws.{Ascends, passing-suc, skipping-suc, passing-each, passing-ascends, any-some, any-nowhere, first-some, map-at, map-none, key-same, key-self, keptOf, gathered-key, no-node, Weldable, fine-weldable}
+use Rattle.meshing.specs.Welds.{NodeKey, sameKey, foundOr, keyAt, isFirst, kept, newNumber, renumbered, welded, roomFor, fitWelded, weldNodes}
+use Rattle.meshing.proofs.WholeLaws.{up-never}
+use Rattle.meshing.proofs.WeldLaws.{key-same, key-self, keptOf, gathered-key, no-node, Weldable, fine-weldable}
 
 -- neither is less
 same-number : (a b : ℕ) → (a < b → ⊥) → (b < a → ⊥) → a ≡ b
@@ -49,7 +50,7 @@ same-number a b f g = step (ltb a b) refl (ltb b a) refl
     step false e false h = omega (arith, ltb-false a b e, ltb-false b a h)
 
 module _ (tolerance : Float) (xs ys zs : List Float) where
-  abbrev key : ℕ → Key
+  abbrev key : ℕ → NodeKey
   key i = keyAt tolerance xs ys zs i
 
   abbrev ks : List ℕ
@@ -122,7 +123,7 @@ module _ (tolerance : Float) (xs ys zs : List Float) where
   numbered p h =
       let k = held (length xs) p h in
       let test : ℕ → Bool = λ k. sameKey (key (getD ks k 0)) (key p) in
-      let holds : test (k .place) ≡ true = ap (λ (a : Key). sameKey a (key p)) (k .same) ∙ key-self (key p) in
+      let holds : test (k .place) ≡ true = ap (λ (a : NodeKey). sameKey a (key p)) (k .same) ∙ key-self (key p) in
       let f = first-some test (length ks) (k .place) (k .inside) holds in
       let e : newNumber tolerance xs ys zs p ≡ f .0 = ap (foundOr (length ks)) (f .1) in
       record {
@@ -147,7 +148,7 @@ module _ (tolerance : Float) (xs ys zs : List Float) where
   abbrev gz : List Float
   gz = gather nan zs ks
 
-  abbrev key′ : ℕ → Key
+  abbrev key′ : ℕ → NodeKey
   key′ i = keyAt tolerance gx gy gz i
 
   long : length gx ≡ length ks

@@ -1,0 +1,2 @@
+-- The shapes of document 01.
+pub mod Paper
