@@ -2,19 +2,21 @@
 use mathlib.Core.Path.{_≡_, refl, sym, ap, _∙_, subst}
 use mathlib.Core.Logic.{inl, inr}
 use Prim.Native.Nat.{ℕ, zero, suc, _+_, _-_, _*_, _/_, _%_, _^_, _≤_, _<_}
-use native.Mathlib.Nat.{le-trans, le-of-eq, lt-of-le-of-lt, lt-of-not-le, not-le-of-lt, eq-or-lt-of-le, mul-one, one-mul, mul-comm, mul-assoc, mul-right-comm, mul-le-mul, mul-le-mul-left, mul-lt-mul-of-pos-right, mod-eq-of-lt, mod-lt, pow-succ'}
+use native.Mathlib.Nat.{le-trans, le-of-eq, lt-of-le-of-lt, lt-of-not-le, not-le-of-lt, eq-or-lt-of-le, mul-one, one-mul, mul-comm, mul-assoc, mul-right-comm, mul-le-mul, mul-le-mul-left, mul-le-mul-right, le-of-mul-le-mul-right, mul-lt-mul-of-pos-right, mod-eq-of-lt, mod-lt, pow-succ'}
 use native.Mathlib.Omega.{arith}
 use mathlib.Core.Bool.{Bool, true, false, not, cond}
-use lib.Dec.{T, leb, eqb, eqb-refl}
+use lib.Dec.{T, leb, eqb, eqb-refl, lit≤}
+use lib.Bits.{bitOr, or-shr, or-mod, or-add-and, and-le-l, and-le-r}
 use lib.Pow.{pow-pos, pow-add, pow-mono}
 use lib.Arith.{digits-div, digits-mod}
-use lib.Ieee.{Float, nan, inf, fin, binary64, up, down, odd, ofFields, ofBits, toBits, nanBits, isNan, fits}
+use lib.Ieee.{Float, nan, inf, fin, binary64, up, down, odd, ofFields, ofBits, toBits, nanBits, isNan, fits, le}
 use lib.Ieee.Fits.{down-pos, round-fits}
 use lib.Ieee.Bits.{ofBits-toBits, ofBits-fits, nanBits-above}
 use lib.Ieee.Exact.{HasValue, odd-sign}
 use lib.Ieee.Positive.{positive, value-pos, first-pos}
-use borrow.Author.Tests.{lt-leb, ne-eqb, le-ltb, leb-false}
+use borrow.Author.Tests.{lt-leb, le-leb, ne-eqb, le-ltb, leb-false}
 use Rattle.binary64.proofs.Values.{value-unique}
+use Rattle.binary64.specs.Numbers.{atMost}
 use Rattle.binary64.specs.Root.{sqrtOf, rootRounded}
 use Rattle.binary64.proofs.WholeRoots.{IsRoot}
 use Rattle.binary64.proofs.RoundedRoots.{rounded-value, half-lo, half-hi, four-pow}
@@ -320,3 +322,54 @@ unfolding isNan
 positive-no-nan nan p = absurd p
 positive-no-nan (inf s) p = tt
 positive-no-nan (fin s m e) p = tt
+
+-- ---- bit 62, the exponent's first: where it is clear, the exponent's field is below 1024, and the number below 2 in size
+pub clear-or : (a b : ℕ) → bitOr a b / 2 ^ 62 % 2 ≡ 0 → (a / 2 ^ 62 % 2 ≡ 0) × (b / 2 ^ 62 % 2 ≡ 0)
+clear-or a b h = none (a / 2 ^ 62 % 2) (b / 2 ^ 62 % 2) (sym (ap (λ (z : ℕ). z % 2) (or-shr a b 62) ∙ or-mod (a / 2 ^ 62) (b / 2 ^ 62) 1) ∙ h)
+  where
+    none : (x y : ℕ) → bitOr x y ≡ 0 → (x ≡ 0) × (y ≡ 0)
+    none x y e = (omega (arith, or-add-and x y, and-le-r x y), omega (arith, or-add-and x y, and-le-l x y))
+
+clear-fields : (s : Bool) (X t : ℕ) → X < 1024 → HasValue (ofFields binary64 s X t) s (mantissa X t * 2 ^ (X - 1)) (2 ^ 1074)
+unfolding ofFields
+clear-fields s zero t l = odd-sign 53 s t 0 1074
+clear-fields s (suc x) t l =
+    subst (λ (z : ℕ). HasValue (ofFields binary64 s (suc x) t) s ((2 ^ 52 + t) * 2 ^ z) (2 ^ 1074)) (less x)
+    (subst (λ (b : Bool). HasValue (cond b (cond (eqb t 0) (inf s) nan) (odd 53 s (2 ^ 52 + t) x 1074)) s ((2 ^ 52 + t) * 2 ^ x) (2 ^ 1074)) (sym (ne-eqb (suc x) 2047 (not-ones x l))) (odd-sign 53 s (2 ^ 52 + t) x 1074))
+  where
+    less : (x : ℕ) → x ≡ suc x - 1
+    less x = omega arith
+
+    not-ones : (x : ℕ) → suc x < 1024 → suc x ≡ 2047 → ⊥
+    not-ones x l e = omega arith
+
+small-digits : (X t : ℕ) → X < 1024 → t < 2 ^ 52 → mantissa X t * 2 ^ (X - 1) ≤ 2 ^ 53 * 2 ^ 1022
+small-digits X t l h = let least : X - 1 ≤ 1022 = omega arith in mul-le-mul (few X t h) (pow-mono least)
+  where
+    few : (X t : ℕ) → t < 2 ^ 52 → mantissa X t ≤ 2 ^ 53
+    few zero t h = omega arith
+    few (suc x) t h = omega arith
+
+small-value : (x : Float) (s : Bool) (a : ℕ) → a ≤ 2 ^ 53 * 2 ^ 1022 → HasValue x s a (2 ^ 1074) → atMost 20 x ≡ true
+unfolding atMost
+small-value nan s a l v = absurd v
+small-value (inf u) s a l v = absurd v
+small-value (fin u m e) s a l v = le-leb (m * up e) (2 ^ 20 * down e) (le-of-mul-le-mul-right (le-trans (le-of-eq (v .1)) (le-trans (mul-le-mul-right (down e) (le-trans l (lit≤ tt))) (le-of-eq (mul-right-comm (2 ^ 20) (2 ^ 1074) (down e))))) (pow-pos 1074))
+
+pub clear-pattern : (x : Float) → T (fits binary64 x) → toBits binary64 x / 2 ^ 62 % 2 ≡ 0 → atMost 20 x ≡ true
+unfolding ofBits
+clear-pattern x f h =
+    let b = toBits binary64 x in
+    let l : b % 2 ^ 63 / 2 ^ 52 < 1024 = field b h in
+    small-value x (leb (2 ^ 63) b) (mantissa (b % 2 ^ 63 / 2 ^ 52) (b % 2 ^ 52) * 2 ^ (b % 2 ^ 63 / 2 ^ 52 - 1)) (small-digits (b % 2 ^ 63 / 2 ^ 52) (b % 2 ^ 52) l (mod-lt b (pow-pos 52)))
+    (subst (λ (y : Float). HasValue y (leb (2 ^ 63) b) (mantissa (b % 2 ^ 63 / 2 ^ 52) (b % 2 ^ 52) * 2 ^ (b % 2 ^ 63 / 2 ^ 52 - 1)) (2 ^ 1074)) (ofBits-toBits binary64 x f) (clear-fields (leb (2 ^ 63) b) (b % 2 ^ 63 / 2 ^ 52) (b % 2 ^ 52) l))
+  where
+    field : (b : ℕ) → b / 2 ^ 62 % 2 ≡ 0 → b % 2 ^ 63 / 2 ^ 52 < 1024
+    field b h = omega arith
+
+-- a number has a pattern
+pub number-no-nan : (x : Float) → le x x ≡ true → T (not (isNan x))
+unfolding isNan le
+number-no-nan nan h = absurd (subst T (sym h) tt)
+number-no-nan (inf s) h = tt
+number-no-nan (fin s m e) h = tt

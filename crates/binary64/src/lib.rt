@@ -8,6 +8,7 @@ mod size;
 pub use pattern::from_bits;
 pub use pattern::infinity;
 pub use pattern::minus_infinity;
+pub use pattern::to_bits;
 pub use range::coordinate_in_range;
 pub use range::extent_in_range;
 pub use range::figure_in_range;

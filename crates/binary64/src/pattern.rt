@@ -1,7 +1,9 @@
-// The infinities, and the number that a bit pattern stands for.
+// The infinities, and numbers and their bit patterns.
 ghost use mathlib.Core.Path.{_≡_};
 ghost use mathlib.Core.Bool.{true, false};
-ghost use lib.Ieee.{binary64, inf, ofBits};
+ghost use Prim.Native.Nat.{_/_, _%_, _^_};
+ghost use lib.Ieee.{binary64, inf, le, ofBits, toBits};
+ghost use Rattle.binary64.specs.Numbers.{atMost};
 
 // As Rust's `f64::INFINITY`.
 pub fn infinity() -> f64
@@ -25,4 +27,12 @@ pub fn from_bits(bits: u64) -> f64
         return 0.0 / 0.0;
     }
     f64::from_bits(bits)
+}
+
+// As Rust's `f64::to_bits`, for a caller that has found x to be a number. Where bit 62 is clear, x is below 2 in size.
+pub fn to_bits(x: f64) -> u64
+    requires { ⌜ le x x ≡ true ⌝ }
+    ensures { λ r. ⌜ (r ≡ toBits binary64 x) × (r / 2 ^ 62 % 2 ≡ 0 → atMost 20 x ≡ true) ⌝ }
+{
+    f64::to_bits(x)
 }

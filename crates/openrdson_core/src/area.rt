@@ -5,11 +5,10 @@ ghost use lib.ListN.{length};
 ghost use Rattle.lists.specs.Answer.{unless, given};
 ghost use mathlib.Core.Bool.{true};
 ghost use Rattle.openrdson_core.specs.Points.{pointAt, pointsIn, ofRing};
-ghost use Rattle.openrdson_core.specs.Area.{cross, signedArea, area, isCcw};
-ghost use Rattle.openrdson_core.specs.Sums.{Summed, extended, extremesIn};
+ghost use lib.Ieee.{le};
+ghost use Rattle.openrdson_core.specs.Area.{cross, shoelace, signedArea, area, isCcw};
+ghost use Rattle.openrdson_core.specs.Sums.{Small};
 ghost use Rattle.openrdson_core.specs.Answers.{measuredAnswer, judgedAnswer};
-use crate::bounds::greater;
-use crate::bounds::lesser;
 use crate::points::Check;
 use crate::points::Judged;
 use crate::points::Measured;
@@ -66,113 +65,113 @@ fn point_at(xs: &[f64], ys: &[f64], i: usize) -> Point
     Point::new(xs[i], ys[i])
 }
 
-// The least and the greatest of some coordinates.
-struct Extremes {
-    low: f64,
-    high: f64,
-}
-
-impl Extremes {
-    // Moved out to the coordinates of a and b. The four are compared with each other first, so that a turn of the loop waits for one
-    // comparison.
-    fn extend(self, a: Point, b: Point) -> Self
-        ensures { λ r. ⌜ r ≡ extended self a b ⌝ }
-    {
-        let low = lesser(lesser(a.x, a.y), lesser(b.x, b.y));
-        let high = greater(greater(a.x, a.y), greater(b.x, b.y));
-        Self {
-            low: lesser(low, self.low),
-            high: greater(high, self.high),
-        }
-    }
-
-    // From -2^20 to 2^20.
-    fn is_in_range(self) -> bool
-        ensures { λ r. ⌜ r ≡ extremesIn self ⌝ }
-    {
-        (self.low >= -1048576.0) & (self.high <= 1048576.0)
-    }
-}
-
-// The sum over the edges from the first `count` points. Where `fine` holds and the sum is a number, those points are in range.
-struct Partial {
-    sum: f64,
-    fine: bool,
-    count: usize,
-}
-
-// Four edges a turn, while a fifth point is left. The points at even and at odd places have extremes of their own, which the compiler
-// works out at once.
-fn sum_by_four(xs: &[f64], ys: &[f64]) -> Partial
-    requires { ⌜ (length (now xs) ≡ length (now ys)) × (0 < length (now xs)) × (length (now xs) ≤ 512) ⌝ }
-    ensures { λ r. ⌜ (r .count < length (now (xs .entry))) × Summed (now (xs .entry)) (now (ys .entry)) (r .count) (r .sum) (r .fine) ⌝ }
+// The sum with the edges from six points on, from place i. Each list is read in one go, and the compiler then works on two numbers at once
+// here and in `patterns_to`.
+fn add_six(xs: &[f64], ys: &[f64], i: usize, sum: f64) -> f64
+    requires { ⌜ (length (now xs) ≡ length (now ys)) × (length (now xs) ≤ 512) × (i + 6 < length (now xs)) × (sum ≡ shoelace (now xs) (now ys) i) ⌝ }
+    ensures { λ r. ⌜ r ≡ shoelace (now (xs .entry)) (now (ys .entry)) (i + 6) ⌝ }
 {
-    let n = xs.len();
-    let mut sum = 0.0;
-    let mut even = Extremes {
-        low: 0.0,
-        high: 0.0,
-    };
-    let mut odd = Extremes {
-        low: 0.0,
-        high: 0.0,
-    };
-    let mut i = 0;
-    while i + 4 < n {
-        let a = point_at(xs, ys, i);
-        let b = point_at(xs, ys, i + 1);
-        let c = point_at(xs, ys, i + 2);
-        let d = point_at(xs, ys, i + 3);
-        let e = point_at(xs, ys, i + 4);
-        even = even.extend(a, c);
-        odd = odd.extend(b, d);
-        sum = sum + cross_of(a, b) + cross_of(b, c) + cross_of(c, d) + cross_of(d, e);
-        i += 4;
-    }
-    let fine = even.is_in_range() & odd.is_in_range();
-    Partial {
-        sum,
-        fine,
-        count: i,
-    }
+    let x0 = xs[i];
+    let x1 = xs[i + 1];
+    let x2 = xs[i + 2];
+    let x3 = xs[i + 3];
+    let x4 = xs[i + 4];
+    let x5 = xs[i + 5];
+    let x6 = xs[i + 6];
+    let y0 = ys[i];
+    let y1 = ys[i + 1];
+    let y2 = ys[i + 2];
+    let y3 = ys[i + 3];
+    let y4 = ys[i + 4];
+    let y5 = ys[i + 5];
+    let y6 = ys[i + 6];
+    let half = sum + (x0 * y1 - x1 * y0) + (x1 * y2 - x2 * y1) + (x2 * y3 - x3 * y2);
+    half + (x3 * y4 - x4 * y3) + (x4 * y5 - x5 * y4) + (x5 * y6 - x6 * y5)
 }
 
-// On to the last point, an edge a turn.
-fn sum_to_last(xs: &[f64], ys: &[f64], from: Partial) -> Partial
-    requires { ⌜ (length (now xs) ≡ length (now ys)) × (length (now xs) ≤ 512) × (from .count < length (now xs)) × Summed (now xs) (now ys) (from .count) (from .sum) (from .fine) ⌝ }
-    ensures { λ r. ⌜ (r .count + 1 ≡ length (now (xs .entry))) × Summed (now (xs .entry)) (now (ys .entry)) (r .count) (r .sum) (r .fine) ⌝ }
+// The sum with the edges from place `from` to place `to`.
+fn add_to(xs: &[f64], ys: &[f64], from: usize, to: usize, start: f64) -> f64
+    requires { ⌜ (length (now xs) ≡ length (now ys)) × (length (now xs) ≤ 512) × (from ≤ to) × (to < length (now xs)) × (start ≡ shoelace (now xs) (now ys) from) ⌝ }
+    ensures { λ r. ⌜ r ≡ shoelace (now (xs .entry)) (now (ys .entry)) to ⌝ }
 {
-    let n = xs.len();
-    let mut sum = from.sum;
-    let mut fine = from.fine;
-    let mut i = from.count;
-    while i + 1 < n {
+    let mut sum = start;
+    let mut i = from;
+    while i < to {
         let here = point_at(xs, ys, i);
         let next = point_at(xs, ys, i + 1);
-        fine = fine & here.is_in_range();
         sum = sum + cross_of(here, next);
         i += 1;
     }
+    sum
+}
+
+// The or of `start` and the bit patterns of the points from place `from` to before place `to`. A sum that is a number was made of numbers.
+fn patterns_to(xs: &[f64], ys: &[f64], from: usize, to: usize, start: u64) -> u64
+    requires { ⌜ (length (now xs) ≡ length (now ys)) × (from ≤ to) × (to ≤ length (now xs)) × (le (shoelace (now xs) (now ys) to) (shoelace (now xs) (now ys) to) ≡ true) × Small (now xs) (now ys) from start ⌝ }
+    ensures { λ r. ⌜ Small (now (xs .entry)) (now (ys .entry)) to r ⌝ }
+{
+    let mut bits = start;
+    let mut i = from;
+    while i < to {
+        let x = binary64::to_bits(xs[i]);
+        let y = binary64::to_bits(ys[i]);
+        bits = bits | x | y;
+        i += 1;
+    }
+    bits
+}
+
+// The sum over the edges from the first `count` points. Where bit 62 of `bits` is clear, those points are in range.
+struct Partial {
+    sum: f64,
+    bits: u64,
+    count: usize,
+}
+
+// Six edges a turn, while a seventh point is left. At a sum that is not a number the patterns are left: a not-a-number has none.
+fn sum_by_six(xs: &[f64], ys: &[f64]) -> Partial
+    requires { ⌜ (length (now xs) ≡ length (now ys)) × (0 < length (now xs)) × (length (now xs) ≤ 512) ⌝ }
+    ensures { λ r. ⌜ (r .count < length (now (xs .entry))) × (r .sum ≡ shoelace (now (xs .entry)) (now (ys .entry)) (r .count)) × Small (now (xs .entry)) (now (ys .entry)) (r .count) (r .bits) ⌝ }
+{
+    let n = xs.len();
+    let mut sum = 0.0;
+    let mut bits = 0;
+    let mut i = 0;
+    while i + 6 < n {
+        let next = i + 6;
+        sum = add_six(xs, ys, i, sum);
+        if !(sum == sum) {
+            return Partial {
+                sum,
+                bits: 0x4000_0000_0000_0000,
+                count: next,
+            };
+        }
+        bits = patterns_to(xs, ys, i, next, bits);
+        i = next;
+    }
     Partial {
         sum,
-        fine,
+        bits,
         count: i,
     }
 }
 
-// Whether every point is in range. Where that is known, the points are not looked at.
-fn all_in_range(xs: &[f64], ys: &[f64], known: bool) -> bool
-    requires { ⌜ (length (now xs) ≡ length (now ys)) × (known ≡ true → pointsIn (now xs) (now ys) ≡ true) ⌝ }
+// Whether every point is in range, from the whole sum and its first part: where no pattern has bit 62, every coordinate is below 2 in size.
+fn all_in_range(xs: &[f64], ys: &[f64], sum: f64, first: Partial) -> bool
+    requires { ⌜ (length (now xs) ≡ length (now ys)) × (sum ≡ shoelace (now xs) (now ys) (length (now xs))) × (first .count < length (now xs)) × Small (now xs) (now ys) (first .count) (first .bits) ⌝ }
     ensures { λ r. ⌜ r ≡ pointsIn (now (xs .entry)) (now (ys .entry)) ⌝ }
 {
-    if known {
-        return true;
+    if sum == sum {
+        let bits = patterns_to(xs, ys, first.count, xs.len(), first.bits);
+        if bits / 0x4000_0000_0000_0000 % 2 == 0 {
+            return true;
+        }
     }
     points_in_range(xs, ys)
 }
 
-// The signed area, or 1: the edges from each point to the next, then the one that closes the ring. A sum with a not-a-number in it is
-// one, so that the extremes, which pass over it, need not tell.
+// The signed area, or 1: the edges from each point to the next, then the one that closes the ring.
 fn signed_area_of_points(xs: &[f64], ys: &[f64]) -> Measured
     requires { ⌜ (length (now xs) ≡ length (now ys)) × (length (now xs) ≤ 512) ⌝ }
     ensures { λ r. ⌜ measuredAnswer r ≡ unless (pointsIn (now (xs .entry)) (now (ys .entry))) 1 (given (signedArea (now (xs .entry)) (now (ys .entry)))) ⌝ }
@@ -181,12 +180,11 @@ fn signed_area_of_points(xs: &[f64], ys: &[f64]) -> Measured
     if n == 0 {
         return Measured::Value(0.0);
     }
-    let first = sum_by_four(xs, ys);
-    let most = sum_to_last(xs, ys, first);
-    let last = point_at(xs, ys, most.count);
-    let sum = most.sum + cross_of(last, Point::new(xs[0], ys[0]));
-    let known = (sum == sum) & most.fine & last.is_in_range();
-    if !all_in_range(xs, ys, known) {
+    let first = sum_by_six(xs, ys);
+    let most = add_to(xs, ys, first.count, n - 1, first.sum);
+    let last = point_at(xs, ys, n - 1);
+    let sum = most + cross_of(last, Point::new(xs[0], ys[0]));
+    if !all_in_range(xs, ys, sum, first) {
         return Measured::Refused(Refusal::NumberOutOfRange);
     }
     if n < 3 {
