@@ -1,7 +1,7 @@
 -- A not-a-number passes on: what a sum, a difference or a product was made of is a number where the result is one. A number is what is at most itself. Assumes nothing.
 use mathlib.Core.Path.{_≡_, refl, sym, ap, _∙_}
-use mathlib.Core.Bool.{Bool, true, false}
-use lib.Ieee.{Float, nan, inf, fin, binary64, neg, add, sub, mul, le}
+use mathlib.Core.Bool.{true, false}
+use lib.Ieee.{Float, nan, inf, fin, neg, add, sub, mul, le, ne}
 use Rattle.binary64.specs.Numbers.{_⊕_, _⊖_, _⊗_}
 use Rattle.binary64.proofs.Order.{never, number-or-nan}
 
@@ -47,3 +47,8 @@ module _ (a b : Float) where
 
   pub product-numbers : le (a ⊗ b) (a ⊗ b) ≡ true → (le a a ≡ true) × (le b b ≡ true)
   product-numbers h = (from-result a (λ (z : Float). z ⊗ b) (nan-left-product b) h, from-result b (λ (z : Float). a ⊗ z) (nan-right-product a) h)
+
+-- what does not differ from itself is a number
+pub same-number : (x : Float) → ne x x ≡ false → le x x ≡ true
+unfolding ne
+same-number x h = number-or-nan x (λ is. never (sym (ap (λ (z : Float). ne z z) (sym is) ∙ h)))

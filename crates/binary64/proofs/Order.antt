@@ -308,7 +308,3 @@ unfolding atMost le
 atMost-above k nan h = never h
 atMost-above k (inf s) h = never h
 atMost-above k (fin s m e) h = refl
-
-pub atMost-between : (k : ℕ) (lo x hi : Float) → le (fin true 1 (pos k)) lo ≡ true → le lo x ≡ true → le x hi ≡ true → le hi (fin false 1 (pos k)) ≡ true → atMost k x ≡ true
-atMost-between k lo x hi a b c d =
-    atMost-sides k x ∙ both (le x (fin false 1 (pos k))) (le (fin true 1 (pos k)) x) (le-trans x hi (fin false 1 (pos k)) c d) (le-trans (fin true 1 (pos k)) lo x a b)

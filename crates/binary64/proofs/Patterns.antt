@@ -1,4 +1,4 @@
--- A binary64 number above zero and its bit pattern: the digits and the exponent that the pattern holds, each way. And the rounded root by them. Assumes nothing.
+-- A binary64 number above zero and its bit pattern: the digits and the exponent that the pattern holds, each way. The rounded root by them. What bit 62 tells of a number's size. Assumes nothing.
 use mathlib.Core.Path.{_≡_, refl, sym, ap, _∙_, subst}
 use mathlib.Core.Logic.{inl, inr}
 use Prim.Native.Nat.{ℕ, zero, suc, _+_, _-_, _*_, _/_, _%_, _^_, _≤_, _<_}

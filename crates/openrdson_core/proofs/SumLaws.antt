@@ -1,6 +1,6 @@
 -- Partial sums of the shoelace rule, and what the bit patterns of their points tell of the points' range. Assumes nothing.
-use mathlib.Core.Path.{_≡_, refl, sym, ap, _∙_, subst}
-use mathlib.Core.Bool.{Bool, true}
+use mathlib.Core.Path.{_≡_, ap, _∙_, subst}
+use mathlib.Core.Bool.{true}
 use mathlib.Core.List.{List}
 use Prim.Native.Nat.{ℕ, zero, suc, _+_, _-_, _/_, _%_, _^_, _≤_, _<_}
 use native.Mathlib.Nat.{add-zero}
@@ -8,12 +8,12 @@ use native.Mathlib.Omega.{arith}
 use lib.Bits.{bitOr}
 use lib.Ieee.{Float, le}
 use Rattle.lists.proofs.Scans.{all-start, all-more}
-use Rattle.binary64.specs.Numbers.{_⊕_, _⊖_, _⊗_, atMost, at}
+use Rattle.binary64.specs.Numbers.{_⊕_, _⊗_, atMost, at}
 use Rattle.binary64.proofs.Order.{both}
 use Rattle.binary64.proofs.NotNumbers.{sum-numbers, difference-numbers, product-numbers}
 use Rattle.binary64.proofs.Patterns.{clear-or}
 use Rattle.openrdson_core.specs.Points.{pointAt, pointIn}
-use Rattle.openrdson_core.specs.Area.{cross, edgeFrom, shoelace}
+use Rattle.openrdson_core.specs.Area.{cross, shoelace}
 use Rattle.openrdson_core.specs.Sums.{Small}
 use Rattle.openrdson_core.specs.declared.points.Point.{Point}
 use Rattle.openrdson_core.proofs.Areas.{sum-step}

@@ -1,11 +1,11 @@
 // The area of a ring by the shoelace rule.
 ghost use mathlib.Core.Path.{_≡_};
 ghost use Prim.Native.Nat.{_+_, _≤_, _<_};
+ghost use lib.Ieee.{le};
 ghost use lib.ListN.{length};
 ghost use Rattle.lists.specs.Answer.{unless, given};
 ghost use mathlib.Core.Bool.{true};
 ghost use Rattle.openrdson_core.specs.Points.{pointAt, pointsIn, ofRing};
-ghost use lib.Ieee.{le};
 ghost use Rattle.openrdson_core.specs.Area.{cross, shoelace, signedArea, area, isCcw};
 ghost use Rattle.openrdson_core.specs.Sums.{Small};
 ghost use Rattle.openrdson_core.specs.Answers.{measuredAnswer, judgedAnswer};
@@ -65,7 +65,7 @@ fn point_at(xs: &[f64], ys: &[f64], i: usize) -> Point
     Point::new(xs[i], ys[i])
 }
 
-// The sum with the edges from six points on, from place i. Each list is read in one go, and the compiler then works on two numbers at once
+// The sum with the six edges from place i on. All x are read before all y: the compiler then works on two neighbours of one list at once,
 // here and in `patterns_to`.
 fn add_six(xs: &[f64], ys: &[f64], i: usize, sum: f64) -> f64
     requires { ⌜ (length (now xs) ≡ length (now ys)) × (length (now xs) ≤ 512) × (i + 6 < length (now xs)) × (sum ≡ shoelace (now xs) (now ys) i) ⌝ }
@@ -105,7 +105,8 @@ fn add_to(xs: &[f64], ys: &[f64], from: usize, to: usize, start: f64) -> f64
     sum
 }
 
-// The or of `start` and the bit patterns of the points from place `from` to before place `to`. A sum that is a number was made of numbers.
+// The or of `start` and the bit patterns of the points from place `from` to before place `to`, for a sum that is a number: it was made of
+// numbers.
 fn patterns_to(xs: &[f64], ys: &[f64], from: usize, to: usize, start: u64) -> u64
     requires { ⌜ (length (now xs) ≡ length (now ys)) × (from ≤ to) × (to ≤ length (now xs)) × (le (shoelace (now xs) (now ys) to) (shoelace (now xs) (now ys) to) ≡ true) × Small (now xs) (now ys) from start ⌝ }
     ensures { λ r. ⌜ Small (now (xs .entry)) (now (ys .entry)) to r ⌝ }
@@ -128,7 +129,8 @@ struct Partial {
     count: usize,
 }
 
-// Six edges a turn, while a seventh point is left. At a sum that is not a number the patterns are left: a not-a-number has none.
+// Six edges a turn, while a seventh point is left. Where the sum is not a number, no pattern may be asked for: bit 62 is set, which tells
+// nothing of the points.
 fn sum_by_six(xs: &[f64], ys: &[f64]) -> Partial
     requires { ⌜ (length (now xs) ≡ length (now ys)) × (0 < length (now xs)) × (length (now xs) ≤ 512) ⌝ }
     ensures { λ r. ⌜ (r .count < length (now (xs .entry))) × (r .sum ≡ shoelace (now (xs .entry)) (now (ys .entry)) (r .count)) × Small (now (xs .entry)) (now (ys .entry)) (r .count) (r .bits) ⌝ }
@@ -140,7 +142,7 @@ fn sum_by_six(xs: &[f64], ys: &[f64]) -> Partial
     while i + 6 < n {
         let next = i + 6;
         sum = add_six(xs, ys, i, sum);
-        if !(sum == sum) {
+        if sum != sum {
             return Partial {
                 sum,
                 bits: 0x4000_0000_0000_0000,
@@ -158,6 +160,7 @@ fn sum_by_six(xs: &[f64], ys: &[f64]) -> Partial
 }
 
 // Whether every point is in range, from the whole sum and its first part: where no pattern has bit 62, every coordinate is below 2 in size.
+// Else the points are looked at.
 fn all_in_range(xs: &[f64], ys: &[f64], sum: f64, first: Partial) -> bool
     requires { ⌜ (length (now xs) ≡ length (now ys)) × (sum ≡ shoelace (now xs) (now ys) (length (now xs))) × (first .count < length (now xs)) × Small (now xs) (now ys) (first .count) (first .bits) ⌝ }
     ensures { λ r. ⌜ r ≡ pointsIn (now (xs .entry)) (now (ys .entry)) ⌝ }

@@ -116,14 +116,14 @@ impl Bbox {
 }
 
 // x where it is below the bound, else the bound.
-pub fn lesser(x: f64, bound: f64) -> f64
+fn lesser(x: f64, bound: f64) -> f64
     ensures { λ r. ⌜ r ≡ spec.lesser x bound ⌝ }
 {
     if x < bound { x } else { bound }
 }
 
 // x where it is above the bound, else the bound.
-pub fn greater(x: f64, bound: f64) -> f64
+fn greater(x: f64, bound: f64) -> f64
     ensures { λ r. ⌜ r ≡ spec.greater x bound ⌝ }
 {
     if x > bound { x } else { bound }

@@ -1,5 +1,4 @@
 -- `add_six` meets its contract: `sum-six`. Assumes nothing.
-use native.Mathlib.Omega.{arith}
 use Rattle.openrdson_core.proofs.Areas.{sum-six}
 use borrow.Author.Needs.{needs}
 use Rattle.openrdson_core.proofs.area.add_six.Statement.{statement}

@@ -1,9 +1,8 @@
 -- `add_to` meets its contract: a turn is `sum-more`. Assumes nothing.
 use borrow.Author.Needs.{needs}
-use Prim.Native.Nat.{_+_, _-_, _≤_, _<_}
+use Prim.Native.Nat.{_+_, _-_, _≤_}
 use native.Mathlib.Omega.{arith}
 use mathlib.Core.Path.{_≡_, refl, ap, _∙_}
-use lib.ListN.{length}
 use Rattle.openrdson_core.specs.Area.{shoelace}
 use Rattle.openrdson_core.proofs.Areas.{sum-more}
 use Rattle.openrdson_core.proofs.area.add_to.Statement.{statement}

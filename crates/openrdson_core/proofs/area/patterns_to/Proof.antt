@@ -1,9 +1,8 @@
 -- `patterns_to` meets its contract: a turn is `small-more`. Assumes nothing.
 use borrow.Author.Needs.{needs}
-use Prim.Native.Nat.{ℕ, _+_, _-_, _≤_, _<_}
+use Prim.Native.Nat.{ℕ, _-_, _≤_}
 use native.Mathlib.Omega.{arith}
 use mathlib.Core.Path.{_≡_, subst}
-use lib.ListN.{length}
 use Rattle.openrdson_core.specs.Sums.{Small}
 use Rattle.openrdson_core.proofs.SumLaws.{whole-before, small-more}
 use Rattle.openrdson_core.proofs.area.patterns_to.Statement.{statement}

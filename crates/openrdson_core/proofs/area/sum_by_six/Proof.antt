@@ -1,11 +1,10 @@
 -- `sum_by_six` meets its contract: a turn is six edges and their points' patterns. Assumes nothing.
-use Prim.Native.Nat.{ℕ, _+_, _-_, _/_, _%_, _^_, _<_}
+use Prim.Native.Nat.{_-_, _/_, _%_, _^_, _<_}
 use native.Mathlib.Omega.{arith}
 use mathlib.Core.Path.{_≡_, refl, sym, ap, _∙_}
 use lib.ListN.{length}
 use lib.Ieee.{Float, le}
-use borrow.Author.Tests.{not-false}
-use Rattle.binary64.proofs.Order.{eq-le}
+use Rattle.binary64.proofs.NotNumbers.{same-number}
 use Rattle.openrdson_core.specs.Area.{shoelace}
 use Rattle.openrdson_core.specs.Sums.{Small}
 use Rattle.openrdson_core.proofs.Areas.{sum-start}
@@ -42,7 +41,7 @@ returns : tie.Need-returns Inv-loop μ-loop
 returns c = (omega (arith, c .before .before .loop-test), c .before .add-six .ensures, λ h. set-bit h)
 
 patterns-to-requires : tie.Need-patterns-to-requires Inv-loop μ-loop
-patterns-to-requires c κs = (c .before .before .before .before .before .before .pre .0, omega arith, omega (arith, c .before .before .loop-test), ap (λ (z : Float). le z z) (sym (c .before .add-six .ensures)) ∙ eq-le (c .before .add-six .result) (c .before .add-six .result) (not-false _ (c .if1 .left)), c .before .before .before .loop .inv .3)
+patterns-to-requires c κs = (c .before .before .before .before .before .before .pre .0, omega arith, omega (arith, c .before .before .loop-test), ap (λ (z : Float). le z z) (sym (c .before .add-six .ensures)) ∙ same-number (c .before .add-six .result) (c .if1 .left), c .before .before .before .loop .inv .3)
 
 loop-less : tie.Need-loop-less Inv-loop μ-loop
 loop-less c = omega (arith, c .before .before .before .loop-test)
