@@ -9,6 +9,7 @@ ghost use Rattle.meshing.specs.Volumes as spec;
 use crate::whole::mesh_check;
 use openrdson_core::Check;
 use openrdson_core::Measured;
+use openrdson_core::NodeNumber;
 use openrdson_core::Point3;
 
 // From a to b.
@@ -59,13 +60,21 @@ fn mean_height(p: f64, q: f64, r: f64) -> f64
     (binary64::abs(p) + binary64::abs(q) + binary64::abs(r)) / 3.0
 }
 
+// The node with a number.
+fn node_of(xs: &[f64], ys: &[f64], zs: &[f64], node: NodeNumber) -> Point3
+    requires { ⌜ (length (now ys) ≡ length (now xs)) × (length (now zs) ≡ length (now xs)) × (node .0 < length (now xs)) ⌝ }
+    ensures { λ r. ⌜ r ≡ spec.nodeAt (now (xs .entry)) (now (ys .entry)) (now (zs .entry)) (node .0) ⌝ }
+{
+    let i = node.0 as usize;
+    Point3::new(xs[i], ys[i], zs[i])
+}
+
 // The node that place k of an element names.
 fn node_at(xs: &[f64], ys: &[f64], zs: &[f64], places: &[u32], k: usize) -> Point3
     requires { ⌜ (length (now ys) ≡ length (now xs)) × (length (now zs) ≡ length (now xs)) × (k < length (now places)) × (getD (now places) k 0 < length (now xs)) ⌝ }
     ensures { λ r. ⌜ r ≡ spec.nodeAt (now (xs .entry)) (now (ys .entry)) (now (zs .entry)) (getD (now (places .entry)) k 0) ⌝ }
 {
-    let i = places[k] as usize;
-    Point3::new(xs[i], ys[i], zs[i])
+    node_of(xs, ys, zs, NodeNumber(places[k]))
 }
 
 // The volume of a prism with these places. For callers that have found its six places to be nodes.
