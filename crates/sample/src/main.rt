@@ -1,11 +1,17 @@
-// Stacks and meshes an embedded power switch, and prints what the calls answer.
+// Stacks and meshes an embedded power switch, and prints what the calls answer. Two arguments name the files that the mesh and its plan are written to.
 mod blocks;
+mod files;
 mod layout;
+mod legend;
 mod mesh;
+mod out;
 mod regions;
 mod report;
 mod stack;
+mod svg;
+mod vtk;
 
+use files::are_two_or_none;
 use geometry::Stacked;
 use geometry::assemble_stack;
 use layout::POINTS;
@@ -63,6 +69,9 @@ fn stack_switch(
 }
 
 fn main() {
+    if !are_two_or_none() {
+        return;
+    }
     let mut xs = [0.0; POINTS];
     let mut ys = [0.0; POINTS];
     layout::put_points(&mut xs, &mut ys);

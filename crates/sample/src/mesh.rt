@@ -8,7 +8,7 @@ use meshing::mesh_model_with_options;
 use openrdson_core::Counts;
 
 // How many nodes the mesh has: a box of a by b by c cells (a + 1)(b + 1)(c + 1), a clipped prism two a point, a scanned one eight a quad.
-const NODES: usize = 5 * 5 * 2 // active area
+pub const NODES: usize = 5 * 5 * 2 // active area
     + 2 * 8 // gate
     + 2 * (3 * 13 * 3) // contacts
     + 2 * (2 * 5 * 2) // fingers
@@ -25,8 +25,29 @@ pub const ELEMENTS: usize = 4 * 4 * 1 // active area
     + (8 - 2) // pad
     + 2 * 3 * 2; // plate
 
-// Meshes the regions in cells of 2 by 2 by 0.5 micrometres, the contacts in finer ones. The caller gets a diagnostic for each region, and the region
-// of each element.
+// How many node places.
+pub const PLACES: usize = 8 * ELEMENTS;
+
+// A coordinate of a node.
+pub fn coordinate(list: &[f64; NODES], node: usize) -> f64 {
+    if node < NODES {
+        return list[node];
+    }
+    0.0
+}
+
+// Node j of element k.
+pub fn node_at(places: &[u32; PLACES], k: usize, j: usize) -> u32 {
+    if k < ELEMENTS {
+        if j < 8 {
+            return places[8 * k + j];
+        }
+    }
+    0
+}
+
+// Meshes the regions in cells of 2 by 2 by 0.5 micrometres, the contacts in finer ones. The caller gets the mesh and a diagnostic for each
+// region.
 pub fn mesh_regions(
     point_x: &[f64; POINTS],
     point_y: &[f64; POINTS],
@@ -42,14 +63,14 @@ pub fn mesh_regions(
     materials: &[u32; REGIONS],
     nets: &[u32; REGIONS],
     polygons: &[u32; REGIONS],
+    xs: &mut [f64; NODES],
+    ys: &mut [f64; NODES],
+    zs: &mut [f64; NODES],
+    element_kinds: &mut [u8; ELEMENTS],
+    places: &mut [u32; PLACES],
     element_regions: &mut [u32; ELEMENTS],
     diagnostics: &mut [u32; REGIONS],
 ) -> Meshed {
-    let mut xs = [0.0; NODES];
-    let mut ys = [0.0; NODES];
-    let mut zs = [0.0; NODES];
-    let mut element_kinds = [0; ELEMENTS];
-    let mut places = [0; 8 * ELEMENTS];
     mesh_model_with_options(
         kinds,
         min_x,
@@ -76,11 +97,11 @@ pub fn mesh_regions(
             nodes: 0,
             elements: 0,
         },
-        &mut xs,
-        &mut ys,
-        &mut zs,
-        &mut element_kinds,
-        &mut places,
+        xs,
+        ys,
+        zs,
+        element_kinds,
+        places,
         element_regions,
         diagnostics,
     )

@@ -1,8 +1,11 @@
 // The switch's regions: meshing them, and a line for each. The region lists are as long as there are regions, and are lent whole.
 ghost use Prim.Native.Nat.{_<_};
+use crate::files::write_files;
 use crate::layout::POINTS;
 use crate::layout::REGIONS;
 use crate::mesh::ELEMENTS;
+use crate::mesh::NODES;
+use crate::mesh::PLACES;
 use crate::mesh::mesh_regions;
 use crate::report::print_measured;
 use crate::report::print_mesh;
@@ -29,7 +32,7 @@ fn solid_at(
     counts: &[u32; REGIONS],
     i: usize,
 ) -> Solid
-    requires { ⌜ i < 11 ⌝ }
+    requires { ⌜ i < 12 ⌝ }
 {
     let z_bottom = z_bottom[i];
     let z_top = z_top[i];
@@ -115,7 +118,7 @@ fn print_regions(
     }
 }
 
-// Meshes the regions, and prints a line for each, one for the mesh and one for the volume.
+// Meshes the regions, prints a line for each, one for the mesh and one for the volume, and writes the files that are asked for.
 pub fn mesh_and_print(
     xs: &[f64; POINTS],
     ys: &[f64; POINTS],
@@ -132,6 +135,11 @@ pub fn mesh_and_print(
     nets: &[u32; REGIONS],
     polygons: &[u32; REGIONS],
 ) {
+    let mut node_x = [0.0; NODES];
+    let mut node_y = [0.0; NODES];
+    let mut node_z = [0.0; NODES];
+    let mut element_kinds = [0; ELEMENTS];
+    let mut places = [0; PLACES];
     let mut element_regions = [NO_REGION; ELEMENTS];
     let mut diagnostics = [0; REGIONS];
     let meshed = mesh_regions(
@@ -149,6 +157,11 @@ pub fn mesh_and_print(
         materials,
         nets,
         polygons,
+        &mut node_x,
+        &mut node_y,
+        &mut node_z,
+        &mut element_kinds,
+        &mut places,
         &mut element_regions,
         &mut diagnostics,
     );
@@ -173,6 +186,27 @@ pub fn mesh_and_print(
                 &diagnostics,
             );
             print_mesh(mesh.nodes, mesh.elements);
+            write_files(
+                xs,
+                ys,
+                kinds,
+                min_x,
+                min_y,
+                max_x,
+                max_y,
+                z_bottom,
+                starts,
+                counts,
+                materials,
+                &diagnostics,
+                &node_x,
+                &node_y,
+                &node_z,
+                &element_kinds,
+                &places,
+                &element_regions,
+                mesh,
+            );
         }
     }
     let total = total_volume(

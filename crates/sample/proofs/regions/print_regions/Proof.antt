@@ -8,7 +8,7 @@ abbrev Inv-loop : tie.InvT-loop
 Inv-loop xs ys kinds min-x min-y max-x max-y z-bottom z-top starts counts materials polygons element-regions diagnostics i₀ i = Unit {0}
 
 abbrev μ-loop : tie.MeasureT-loop
-μ-loop xs ys kinds min-x min-y max-x max-y z-bottom z-top starts counts materials polygons element-regions diagnostics i₀ i = 11 - i
+μ-loop xs ys kinds min-x min-y max-x max-y z-bottom z-top starts counts materials polygons element-regions diagnostics i₀ i = 12 - i
 
 loop-holds : tie.Need-loop-holds Inv-loop μ-loop
 loop-holds c = search needs
