@@ -1,11 +1,13 @@
 //! Writes the expected answers that crates/replay, crates/replay_blocks, crates/replay_regions and crates/replay_meshes
-//! replay, and what crates/sample prints; with --check it only says whether the files are the same.
+//! replay, what crates/sample prints, and its picture of the plan; with --check it only says whether the files are the same,
+//! and whether those that crates/sample writes are what the Rust's mesh says.
 mod blocks;
 mod meshes;
 mod numbers;
 mod regions;
 mod sample;
 mod switch;
+mod view;
 
 use sample::Sample;
 use std::path::Path;
@@ -31,6 +33,7 @@ fn main() -> ExitCode {
             println!("{name}: {} recorded answers, {} bytes", sample.cases, sample.bytes.len());
         }
     }
+    same &= view::written(check);
     if same { ExitCode::SUCCESS } else { ExitCode::FAILURE }
 }
 

@@ -1,8 +1,8 @@
-//! What crates/sample prints: the same switch, stacked and meshed by the Rust.
+//! What crates/sample prints and writes: the same switch, stacked and meshed by the Rust.
 use crate::sample::Sample;
 use oracle::core::geometry::{LayerKey, Point, Solid, SolidModel, SolidRegion};
 use oracle::core::layout::{LayoutIR, LayoutPolygon};
-use oracle::core::mesh::Mesh;
+use oracle::core::mesh::{Element, Mesh};
 use oracle::core::tech::{Conductor, Diffusion, LayerMap, TechStack, Via};
 use oracle::geometry::{assemble_stack, total_volume, StackAssemblyReport};
 use oracle::meshing::{mesh_model_with_options, MeshConfig, MeshOptions};
@@ -38,17 +38,17 @@ pub fn printed() -> Sample {
 }
 
 /// The switch, and what the Rust makes of it.
-struct Job {
+pub struct Job {
     layout: LayoutIR,
     map: LayerMap,
-    model: SolidModel,
+    pub model: SolidModel,
     report: StackAssemblyReport,
-    mesh: Mesh,
+    pub mesh: Mesh,
     refused: Vec<String>,
 }
 
 impl Job {
-    fn new() -> Job {
+    pub fn new() -> Job {
         let (layout, map) = (layout(), map());
         let (model, report) = assemble_stack(&layout, &stack(), &map);
         let default = MeshConfig { lateral_cell: 2e-6, z_cell: 0.5e-6 };
@@ -95,13 +95,18 @@ impl Job {
     }
 
     /// Document 01's number for what the Rust says of a region; 0 where it says nothing.
-    fn diagnostic(&self, i: usize) -> u32 {
+    pub fn diagnostic(&self, i: usize) -> u32 {
         let start = format!("region {i} (");
         match self.refused.iter().find(|text| text.starts_with(&start)) {
             None => 0,
             Some(text) if text.contains("no interior trapezoids") => 11,
             Some(text) => panic!("the Rust says of the switch: {text}"),
         }
+    }
+
+    /// The place in the model of the region that an element is of.
+    pub fn region_of(&self, element: &Element) -> usize {
+        self.model.regions.iter().position(|region| region.source_polygon == element.source_polygon).unwrap()
     }
 
     fn totals(&self) -> Vec<String> {
@@ -146,6 +151,10 @@ fn polygons() -> Vec<(i16, &'static str, Vec<(f64, f64)>)> {
         let high = [(3.5e-6, 8e-6), (1.5e-6, 8e-6), (0.5e-6, 7e-6), (0.5e-6, 3e-6)];
         [low, high].concat()
     };
+    let shield = || {
+        let round = [(0.5e-6, 9.4e-6), (3.8e-6, 9.4e-6), (3.8e-6, 10e-6), (1.5e-6, 10e-6), (1.5e-6, 11e-6), (0.5e-6, 11e-6)];
+        [round, round].concat()
+    };
     vec![
         (1, "", active()),
         (4, "gate", gate()),
@@ -162,6 +171,7 @@ fn polygons() -> Vec<(i16, &'static str, Vec<(f64, f64)>)> {
         (10, "drain", rectangle(5.5e-6, 2e-6, 8.5e-6, 8e-6)),
         (99, "", active()),
         (30, "", active()),
+        (10, "", shield()),
     ]
 }
 
