@@ -148,11 +148,7 @@ fn put_rows(fd: i32, buffer: &mut [u8; SIZE], at: usize) -> usize {
 
 // A row for each layer and one for what is refused, and the scale.
 pub fn put_legend(fd: i32, buffer: &mut [u8; SIZE], at: usize) -> usize {
-    let at = put(
-        buffer,
-        at,
-        b"<text x='9900' y='300'>material and layer</text>\n",
-    );
+    let at = put(buffer, at, b"<text x='9900' y='300'>material</text>\n");
     let at = put_rows(fd, buffer, at);
     let at = put(
         buffer,
