@@ -1,7 +1,7 @@
 //! The sources in C's words.
 use crate::source::{self, Function, Kind};
 
-fn type_of(rattle: &str) -> &'static str {
+pub fn type_of(rattle: &str) -> &'static str {
     match rattle {
         "bool" => "bool",
         "f64" => "double",

@@ -1,17 +1,20 @@
-//! Holds include/openrdson.h and the bindings of host/openrdson to the functions that crates/c_api exports.
+//! Holds include/openrdson.h, the bindings of host/openrdson and the table of host/fuzz to the functions that crates/c_api exports.
 //!
 //!     header                the check
 //!     header --prototypes   prints the functions in C
 //!     header --bindings     prints them in Rust
+//!     header --table        prints them as a table in C
 mod c;
 mod rust;
 mod source;
+mod table;
 
 use std::collections::BTreeSet;
 use std::process::ExitCode;
 
 const HEADER: &str = "include/openrdson.h";
 const BINDINGS: &str = "host/openrdson/src/calls/raw.rs";
+const TABLE: &str = "host/fuzz/calls.h";
 
 fn main() -> ExitCode {
     let functions = source::functions();
@@ -23,6 +26,10 @@ fn main() -> ExitCode {
         }
         Some("--bindings") => {
             print!("{}", rust::bindings(&functions));
+            return ExitCode::SUCCESS;
+        }
+        Some("--table") => {
+            print!("{}", table::table(&functions));
             return ExitCode::SUCCESS;
         }
         Some(other) => panic!("no option {other}"),
@@ -52,6 +59,9 @@ fn main() -> ExitCode {
     }
     if source::text(BINDINGS) != rust::bindings(&functions) {
         fail(format!("{BINDINGS} is not what `header --bindings` prints"));
+    }
+    if source::text(TABLE) != table::table(&functions) {
+        fail(format!("{TABLE} is not what `header --table` prints"));
     }
     let held = exported.len() + others.len();
     println!("{held} declarations of {HEADER} held to the sources, {failures} failed");
