@@ -13,6 +13,7 @@ cargo build --quiet --release --offline --locked
 "$CARGO_TARGET_DIR/release/header"
 cc -Wall -Wextra -Werror -pedantic -std=c99 -O1 -I../include header/calls.c ../target/staticlib/libc_api.a -o "$CARGO_TARGET_DIR/calls"
 "$CARGO_TARGET_DIR/calls"
+fuzz/share.sh
 cargo test --quiet --release --offline --locked -p openrdson
 "$CARGO_TARGET_DIR/release/moved"
 "$CARGO_TARGET_DIR/release/differences"

@@ -8,6 +8,7 @@ uint32_t __real_openrdson_polygon_area(RING, double *area);
 uint32_t __real_openrdson_polygon_signed_area(RING, double *area);
 uint32_t __real_openrdson_is_ccw(RING, bool *ccw);
 uint32_t __real_openrdson_is_axis_aligned_rectangle(RING, bool *rectangle);
+uint32_t __real_openrdson_bbox_from_points(RING, double *min_x, double *min_y, double *max_x, double *max_y);
 uint32_t __real_openrdson_dedup_ring(RING, double *out_x, size_t out_x_len, double *out_y, size_t out_y_len, size_t *points);
 uint32_t __real_openrdson_cell_count(double extent, double cell, size_t *cells);
 uint32_t __real_openrdson_layer_name(const uint8_t *names, size_t names_len, int16_t layer, size_t *start, size_t *length);
@@ -68,4 +69,12 @@ uint32_t __wrap_openrdson_layer_name(const uint8_t *names, size_t names_len, int
     if (names_len > 2 && names_len < 2 + (size_t)names[0] * 34)
         read_byte = names[names_len];
     return __real_openrdson_layer_name(names, names_len, layer, start, length);
+}
+
+/* Looks at what it is to write. */
+uint32_t __wrap_openrdson_bbox_from_points(RING, double *min_x, double *min_y, double *max_x, double *max_y)
+{
+    if (*max_y == 1)
+        read_here = 1;
+    return __real_openrdson_bbox_from_points(GIVEN, min_x, min_y, max_x, max_y);
 }

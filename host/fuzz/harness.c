@@ -17,6 +17,8 @@ static uint64_t bits(const void *of, size_t bytes)
 
 enum { COUNT = sizeof CALLS / sizeof *CALLS, STATUSES = 17, NEVER = OPENRDSON_ODD_CROSSINGS, DEEP = 16 };
 
+typedef char calls_have_room[(int)COUNT < (int)MOST_CALLS ? 1 : -1];
+
 static unsigned long answers[COUNT][STATUSES], diagnostics[STATUSES], inputs;
 
 static void require(bool holds, const char *what, const struct call *c, int place)
@@ -151,7 +153,9 @@ static void chain(void)
 static void report(void)
 {
     int i, j;
-    printf("inputs: %lu\nbasic blocks of the archive: %zu of %zu reached\n", inputs, blocks_reached(), blocks_listed());
+    printf("inputs: %lu\n", inputs);
+    if (blocks_listed())
+        printf("basic blocks of the archive: %zu of %zu reached\n", blocks_reached(), blocks_listed());
     for (i = 0; i < COUNT; i++) {
         printf("%s:", CALLS[i].name);
         for (j = 0; j < STATUSES; j++)

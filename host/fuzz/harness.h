@@ -7,7 +7,7 @@
 enum lent { VALUE, OUT, READ, WRITE };
 enum type { BOOL, F64, I16, I64, U8, U32, U64, USIZE, BBOX, POINT };
 
-enum { MOST_PARAMETERS = 40, ROOM = 1 << 16, MOST_ZEROS = 24 << 20 };
+enum { MOST_CALLS = 128, MOST_PARAMETERS = 40, ROOM = 1 << 16, SPARE = 64, MOST_ZEROS = 24 << 20 };
 
 struct parameter {
     const char *name;
@@ -36,7 +36,7 @@ struct call {
 
 /* ---- lend.c: a list a parameter ---- */
 
-/* What a list holds before the call: ROOM bytes that can be filled. */
+/* What a list holds before the call: ROOM bytes that can be filled, and SPARE past them. */
 uint8_t *before(int place);
 /* Lends its first `bytes` bytes, of which `set` are set: against an unreadable page after it, or before it (`front`). With
    MEMCHECK defined: from an allocation of its own, the bytes past `set` not set. */
@@ -69,6 +69,9 @@ bool changed(const struct call *c, int place, const struct argument *a, uint64_t
 /* Keeps the regions or the mesh that an accepted call wrote, for a call after it. */
 void keep(const struct call *c, const struct argument *a);
 void forget(void);
+
+/* ---- plan.c ---- */
+
 /* The place of the parameter with this name, and with this way of being lent; -1 if there is none. */
 int parameter(const struct call *c, const char *name, enum lent lent);
 

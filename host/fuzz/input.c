@@ -48,11 +48,11 @@ bool strange(void)
 double hard_number(void)
 {
     static const double hard[] = {
-        0.0, -0.0, 1.0, -1.0, NAN, INFINITY, -INFINITY, 0x1p20, -0x1p20, 0x1.0000000000001p20, 0x1.fffffffffffffp19, 0x1p19, -0x1p19,
-        0x1.0000000000001p19, 0x1p21, 0x1.0000000000001p21, 0x1p-52, 0x1.fffffffffffffp-53, -0x1p-53, 1.5e-16, 0x1p-1074, -0x1p-1074,
-        DBL_MIN, 0x0.fffffffffffffp-1022, DBL_MAX, -DBL_MAX, 1e-6, 0.1e-6, 1e-9, 1e-12, 1e-15, 1e-30, 0.5, -0.5,
-        0x1.fffffffffffffp-2, 1.5, 2.5, 4096.0, 4097.0, 0x1p52, 0x1p53, 0x1p62, 0x1p63, -0x1p63, 0x1p64, 0x1p-43, 0x1.0000000000001p0,
-        0x1.fffffffffffffp-1, 1e-300, 1e300,
+        0.0, -0.0, 1.0, -1.0, NAN, INFINITY, -INFINITY, 0x1p20, -0x1p20, 0x1.0000000000001p20, 0x1.fffffffffffffp19, 0x1p19,
+        -0x1p19, 0x1.0000000000001p19, 0x1p21, 0x1.0000000000001p21, 0x1p-52, 0x1.fffffffffffffp-53, -0x1p-53, 1.5e-16,
+        0x1p-1074, -0x1p-1074, DBL_MIN, 0x0.fffffffffffffp-1022, DBL_MAX, -DBL_MAX, 1e-6, 0.1e-6, 1e-9, 1e-12, 1e-15, 1e-30,
+        0.5, -0.5, 0x1.fffffffffffffp-2, 1.5, 2.5, 4096.0, 4097.0, 0x1p52, 0x1p53, 0x1p62, 0x1p63, -0x1p63, 0x1p64, 0x1p-43,
+        0x1.0000000000001p0, 0x1.fffffffffffffp-1, 1e-300, 1e300,
     };
     unsigned b = byte();
     uint64_t bits = 0;
@@ -69,8 +69,8 @@ double hard_number(void)
 uint32_t hard_whole(void)
 {
     static const uint32_t hard[] = {
-        0, 1, 2, 3, 511, 512, 513, 768, 769, 4095, 4096, 4097, 1048575, 1048576, 1048577, 2097152, 2097153, INT32_MAX, UINT32_C(1) << 31,
-        UINT32_MAX - 1, UINT32_MAX,
+        0, 1, 2, 3, 511, 512, 513, 768, 769, 4095, 4096, 4097, 1048575, 1048576, 1048577, 2097152, 2097153, INT32_MAX,
+        UINT32_C(1) << 31, UINT32_MAX - 1, UINT32_MAX,
     };
     unsigned b = byte();
     uint32_t whole = 0;

@@ -1,17 +1,9 @@
 /* The arguments of a call: parallel lists are a group, drawn to fit each other, or not. */
-#include "harness.h"
+#include "plan.h"
 #include "shapes.h"
 #include <string.h>
 
-enum group {
-    POINTS, NODES, ELEMENTS, ROWS, POLYGONS, OVERRIDES, BLOCK, NAME,              /* read */
-    NODE_ROOM, ELEMENT_ROOM, ROW_ROOM, OUTCOMES, DIAGNOSTICS, RING, CORNERS, COPY, /* written */
-    SINGLE, GROUPS
-};
-
-enum role { LOW, HIGH, CELL_SIZE, EXTENT, ANY_NUMBER, LAYER, START, COUNT, MATERIAL, KIND, ELEMENT_KIND, PLACES, OTHER };
-
-enum { ROW_LISTS = 12, MESH_LISTS = 6, MOST_CALLS = 128, MOST_KEPT = 2500 };
+enum { ROW_LISTS = 12, MESH_LISTS = 6, MOST_KEPT = 2500 };
 
 /* What an earlier call of the same input wrote. */
 static struct {
@@ -21,126 +13,6 @@ static struct {
 
 static size_t sizes[GROUPS], nodes_there, elements_there;
 static bool past_rows, past_mesh, zeros[GROUPS];
-
-/* libFuzzer watches strcmp and makes inputs of what is compared. */
-static bool same(const char *one, const char *other)
-{
-    while (*one && *one == *other) {
-        one++;
-        other++;
-    }
-    return *one == *other;
-}
-
-int parameter(const struct call *c, const char *name, enum lent lent)
-{
-    int i;
-    for (i = 0; i < c->count; i++)
-        if (c->parameters[i].lent == lent && same(c->parameters[i].name, name))
-            return i;
-    return -1;
-}
-
-static bool among(const char *name, const char *const *names)
-{
-    for (; *names; names++)
-        if (same(name, *names))
-            return true;
-    return false;
-}
-
-static enum group read_group(const struct call *c, const struct parameter *p)
-{
-    static const char *const of_polygons[] = {"layers", "nets", "starts", "counts", NULL}, *const of_points[] = {"xs", "ys", "point_x", "point_y", NULL};
-    static const char *const of_nodes[] = {"xs", "ys", "zs", NULL}, *const of_elements[] = {"kinds", "places", "regions", NULL};
-    static const char *const of_overrides[] = {"materials", "laterals", "verticals", NULL}, *const of_kinds[] = {"kinds", "row_kinds", NULL};
-    if (parameter(c, "layers", READ) >= 0 && among(p->name, of_polygons))
-        return POLYGONS;
-    if (parameter(c, "zs", READ) >= 0 && among(p->name, of_nodes))
-        return NODES;
-    if (parameter(c, "zs", READ) >= 0 && among(p->name, of_elements))
-        return ELEMENTS;
-    if (among(p->name, of_points))
-        return POINTS;
-    if (parameter(c, "laterals", READ) >= 0 && among(p->name, of_overrides))
-        return OVERRIDES;
-    if (same(p->name, "name"))
-        return NAME;
-    return p->type == U8 && !among(p->name, of_kinds) ? BLOCK : ROWS;
-}
-
-static enum group written_group(const struct call *c, const struct parameter *p)
-{
-    static const char *const of_elements[] = {"kinds", "places", "regions", "out_kinds", "out_places", "out_regions", NULL};
-    static const struct { const char *name; enum group group; } alone[] = {
-        {"outcomes", OUTCOMES}, {"diagnostics", DIAGNOSTICS}, {"corners", CORNERS}, {"copy", COPY},
-    };
-    size_t i;
-    for (i = 0; i < sizeof alone / sizeof *alone; i++)
-        if (same(p->name, alone[i].name))
-            return alone[i].group;
-    if (parameter(c, "layers", READ) >= 0)
-        return ROW_ROOM;
-    if (parameter(c, "zs", WRITE) < 0 && parameter(c, "out_z", WRITE) < 0)
-        return RING;
-    return among(p->name, of_elements) ? ELEMENT_ROOM : NODE_ROOM;
-}
-
-/* What a parameter's values are, by its name. */
-static enum role role_of(const struct parameter *p, enum group g)
-{
-    static const struct { const char *name; enum role role; } roles[] = {
-        {"lateral_cell", CELL_SIZE}, {"z_cell", CELL_SIZE}, {"cell", CELL_SIZE}, {"laterals", CELL_SIZE}, {"verticals", CELL_SIZE},
-        {"tolerance", CELL_SIZE}, {"extent", EXTENT}, {"x", ANY_NUMBER}, {"max", HIGH}, {"max_x", HIGH}, {"max_y", HIGH},
-        {"z_top", HIGH}, {"layer", LAYER}, {"layers", LAYER}, {"start", START}, {"starts", START}, {"count", COUNT}, {"counts", COUNT},
-        {"row_counts", COUNT}, {"material", MATERIAL}, {"materials", MATERIAL}, {"row_materials", MATERIAL}, {"kinds", KIND},
-        {"row_kinds", KIND}, {"places", PLACES}, {"out_places", PLACES},
-    };
-    size_t i;
-    for (i = 0; i < sizeof roles / sizeof *roles; i++)
-        if (same(p->name, roles[i].name))
-            return g == ELEMENTS && roles[i].role == KIND ? ELEMENT_KIND : roles[i].role;
-    return p->type == F64 ? LOW : OTHER;
-}
-
-/* The groups and roles of a call's parameters, the place of each list in its group, and whether it appends to a mesh. */
-static struct plan {
-    const struct call *call;
-    enum group group[MOST_PARAMETERS];
-    enum role role[MOST_PARAMETERS];
-    int column[MOST_PARAMETERS];
-    bool appends, stacks, meshes, parts;
-} plans[MOST_CALLS], *plan;
-
-static void make_plan(const struct call *c)
-{
-    int i, in_group[GROUPS] = {0};
-    plan->call = c;
-    for (i = 0; i < c->count; i++) {
-        const struct parameter *p = &c->parameters[i];
-        plan->group[i] = p->lent == READ ? read_group(c, p) : p->lent == WRITE ? written_group(c, p) : SINGLE;
-        plan->role[i] = role_of(p, plan->group[i]);
-        plan->column[i] = in_group[plan->group[i]]++;
-    }
-    plan->appends = parameter(c, "zs", WRITE) >= 0;
-    plan->stacks = parameter(c, "layers", READ) >= 0;
-    plan->meshes = plan->appends || parameter(c, "zs", READ) >= 0;
-    plan->parts = parameter(c, "starts", READ) >= 0 || parameter(c, "start", VALUE) >= 0;
-}
-
-static void find_plan(const struct call *c)
-{
-    for (plan = plans; plan->call && plan->call != c; plan++)
-        ;
-    if (!plan->call)
-        make_plan(c);
-}
-
-/* Entries of a list for one of its group. */
-static size_t each(int place)
-{
-    return plan->role[place] == PLACES ? OPENRDSON_NODE_PLACES : 1;
-}
 
 static size_t rows_drawn(size_t most)
 {
@@ -184,16 +56,19 @@ static void draw_rooms(void)
 static void draw_points(const struct call *c)
 {
     int x = parameter(c, "xs", READ) >= 0 ? parameter(c, "xs", READ) : parameter(c, "point_x", READ), i;
+    rings_of(0);
     if (x < 0 || plan->group[x] != POINTS)
         return;
     if (past_rows) {
         for (i = 0; i < 2; i++)
-            memcpy(before(x + i), past.points[i], ROOM);
+            memcpy(before(x + i), past.points[i], past.point_count * sizeof(double));
         sizes[POINTS] = past.point_count;
         rings_of(past.point_count);
     } else {
         sizes[POINTS] = draw_rings((double *)before(x), (double *)before(x + 1), ROOM / sizeof(double), plan->parts ? 6 : 0);
     }
+    for (i = 0; i < 2; i++)
+        memset(before(x + i) + sizes[POINTS] * sizeof(double), 0, SPARE);
 }
 
 void begin_call(const struct call *c, bool chained)
@@ -281,7 +156,8 @@ static const uint8_t *past_list(const struct call *c, int place, size_t *bytes)
     enum group g = plan->group[place];
     int which = plan->column[place];
     size_t row = each(place) * c->parameters[place].bytes;
-    bool nodes = g == NODES || (g == NODE_ROOM && plan->appends), elements = g == ELEMENTS || (g == ELEMENT_ROOM && plan->appends);
+    bool nodes = g == NODES || (g == NODE_ROOM && plan->appends);
+    bool elements = g == ELEMENTS || (g == ELEMENT_ROOM && plan->appends);
     *bytes = 0;
     if (g == ROWS && past_rows && which < ROW_LISTS) {
         *bytes = past.row_count * row;
@@ -303,6 +179,7 @@ static void fill(const struct call *c, int place, size_t length)
             ((double *)(void *)list)[i] = number(plan->role[place]);
         else
             set(p, list, i, whole(c, plan->role[place], i));
+    memset(list + length * p->bytes, 0, SPARE);
 }
 
 static size_t draw_bytes(const struct call *c, int place)
@@ -315,8 +192,8 @@ static size_t draw_bytes(const struct call *c, int place)
         return draw_name(before(place));
     for (i = 0; i < 6; i++)
         if (same(kinds[i].name, c->parameters[place].name))
-            return draw_block(kinds[i].kind, before(place), ROOM);
-    return draw_block(FIGURES, before(place), ROOM);
+            return draw_block(kinds[i].kind, before(place));
+    return draw_block(FIGURES, before(place));
 }
 
 /* The length of a list of a group, or one that does not fit the others. */
@@ -341,10 +218,12 @@ static void draw_read(const struct call *c, int place, struct argument *a)
     }
     a->length = g == BLOCK || g == NAME ? draw_bytes(c, place) : draw_length(place, p->bytes, ROOM);
     from = past_list(c, place, &bytes);
-    if (from)
-        memcpy(before(place), from, a->length * p->bytes);
-    else if (g != POINTS && g != BLOCK && g != NAME)
+    if (from) {
+        memcpy(before(place), from, bytes);
+        memset(before(place) + bytes, 0, SPARE);
+    } else if (g != POINTS && g != BLOCK && g != NAME) {
         fill(c, place, a->length);
+    }
     a->list = lend(place, a->length * p->bytes, a->length * p->bytes, pick(2));
 }
 
@@ -445,11 +324,12 @@ void keep(const struct call *c, const struct argument *a)
         return;
     for (i = 0; i < c->count; i++) {
         enum group g = plan->group[i];
+        int which = plan->column[i];
         size_t from, to;
         if (g != ROW_ROOM && g != NODE_ROOM && g != ELEMENT_ROOM)
             continue;
         changed(c, i, a, 0, &from, &to);
-        memcpy(g == ROW_ROOM ? past.rows[plan->column[i]] : past.mesh[plan->column[i] + (g == ELEMENT_ROOM ? 3 : 0)], a[i].list, to);
+        memcpy(g == ROW_ROOM ? past.rows[which] : past.mesh[g == NODE_ROOM ? which : 3 + which], a[i].list, to);
     }
     if (plan->stacks) {
         past.row_count = given(c, a, "regions");

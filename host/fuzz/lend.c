@@ -14,7 +14,7 @@ struct list {
 };
 
 static struct list lists[MOST_PARAMETERS];
-static uint8_t befores[MOST_PARAMETERS][ROOM];
+static uint8_t befores[MOST_PARAMETERS][ROOM + SPARE];
 
 /* libFuzzer watches memcmp and makes inputs of what is compared. */
 static bool same(const uint8_t *one, const uint8_t *other, size_t bytes)

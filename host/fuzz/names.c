@@ -8,8 +8,8 @@ enum { CELL = OPENRDSON_NAME_BYTES };
 
 /* Layers and their logical names; then what these are called in the stack. */
 static const char *const logical[] = {
-    "m1", "m2", "v1", "poly", "net_a", "d", "seed_x", "BLOCK_1", "x_prop", "a marker", "drawing2", "seed", "BLOCK", "_pro", "\xff\xfe",
-    "abcdefghijklmnopqrstuvwxyz012345",
+    "m1", "m2", "v1", "poly", "net_a", "d", "seed_x", "BLOCK_1", "x_prop", "a marker", "drawing2", "seed", "BLOCK", "_pro",
+    "\xff\xfe", "abcdefghijklmnopqrstuvwxyz012345",
 };
 static const char *const physical[] = {"M1", "M2", "V1", "V2", "D1", "P", "\xc3\x28", "ABCDEFGHIJKLMNOPQRSTUVWXYZ012345"};
 
@@ -81,12 +81,12 @@ static void row(enum block kind, uint8_t *first, uint8_t *second, size_t i, size
     }
 }
 
-static size_t damaged(uint8_t *block, size_t length, size_t most)
+static size_t damaged(uint8_t *block, size_t length)
 {
     size_t at = (byte() * 256u + byte()) % (length + 1);
     switch (pick(7)) {
     case 0: return at;
-    case 1: return length + 1 < most ? length + 1 : length;
+    case 1: return length + 1;
     case 2: block[0]++; return length;
     case 3: block[at ? at - 1 : 0] = 0; return length;
     case 4: block[at ? at - 1 : 0] ^= (uint8_t)(1 << pick(8)); return length;
@@ -98,19 +98,19 @@ static size_t damaged(uint8_t *block, size_t length, size_t most)
     }
 }
 
-size_t draw_block(enum block kind, uint8_t *block, size_t most)
+size_t draw_block(enum block kind, uint8_t *block)
 {
     static const size_t firsts[] = {2, CELL, CELL, CELL}, seconds[] = {CELL, CELL, 17, 2 * CELL};
     size_t first = firsts[kind], second = seconds[kind], i, rows, length;
     unsigned b = byte(), turn = byte();
     rows = b < 240 ? b % 9 : b < 252 ? b % 17 : b % 2 ? OPENRDSON_MOST_ROWS : OPENRDSON_MOST_ROWS + 1;
     length = 2 + rows * (first + second);
-    memset(block, 0, length);
+    memset(block, 0, length + 1);
     block[0] = (uint8_t)(rows % 256);
     block[1] = (uint8_t)(rows / 256);
     for (i = 0; i < rows; i++)
         row(kind, block + 2 + i * first, block + 2 + rows * first + i * second, i, rows, turn);
-    return strange() || pick(16) == 0 ? damaged(block, length, most) : length;
+    return strange() || pick(16) == 0 ? damaged(block, length) : length;
 }
 
 size_t draw_name(uint8_t *name)

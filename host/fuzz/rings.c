@@ -12,7 +12,9 @@ static unsigned salt;
 
 void begin_grid(void)
 {
-    static const double steps[] = {1, 1, 1, 0.5, 1e-6, 1e-6, 0.1, 1.0 / 3, 1e-9, 1024, 0x1p15, 0x1p-52, 0x1p-54, 1e-16, 1e-30, 0x1p-1074};
+    static const double steps[] = {
+        1, 1, 1, 0.5, 1e-6, 1e-6, 0.1, 1.0 / 3, 1e-9, 1024, 0x1p15, 0x1p-52, 0x1p-54, 1e-16, 1e-30, 0x1p-1074,
+    };
     static const double origins[] = {0, 0, 0, 0, 0, 1, 0x1p19, -0x1p19};
     step = steps[pick(16)];
     origin = origins[pick(8)];
@@ -61,7 +63,7 @@ static void rectilinear(double *xs, double *ys, size_t count, int teeth)
             y += step * (1 + pick(3));
     }
     if (count) {
-        xs[i] = xs[0];
+        xs[i] = i ? xs[0] : x;
         ys[i] = i ? ys[i - 1] : y;
     }
 }

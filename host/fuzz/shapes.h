@@ -23,8 +23,8 @@ uint32_t ring_start(size_t row), ring_count(size_t row);
 
 enum block { NAMES, MAP, FIGURES, VIAS };
 
-/* Fills a block, or a damaged one; gives its length, at most `most`. */
-size_t draw_block(enum block kind, uint8_t *block, size_t most);
+/* Fills a block, or a damaged one; gives its length, at most 25,000. */
+size_t draw_block(enum block kind, uint8_t *block);
 /* Fills a name that may be asked for, at most 80 bytes; gives its length. */
 size_t draw_name(uint8_t *name);
 int16_t draw_layer(void);

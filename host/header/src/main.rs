@@ -9,6 +9,7 @@ mod rust;
 mod source;
 mod table;
 
+use source::Function;
 use std::collections::BTreeSet;
 use std::process::ExitCode;
 
@@ -19,21 +20,20 @@ const TABLE: &str = "host/fuzz/calls.h";
 fn main() -> ExitCode {
     let functions = source::functions();
     match std::env::args().nth(1).as_deref() {
-        None => {}
-        Some("--prototypes") => {
-            functions.iter().for_each(|function| println!("{};", c::prototype(function)));
-            return ExitCode::SUCCESS;
-        }
-        Some("--bindings") => {
-            print!("{}", rust::bindings(&functions));
-            return ExitCode::SUCCESS;
-        }
-        Some("--table") => {
-            print!("{}", table::table(&functions));
-            return ExitCode::SUCCESS;
-        }
+        None => check(&functions),
+        Some("--prototypes") => print(functions.iter().map(|function| c::prototype(function) + ";\n").collect()),
+        Some("--bindings") => print(rust::bindings(&functions)),
+        Some("--table") => print(table::table(&functions)),
         Some(other) => panic!("no option {other}"),
     }
+}
+
+fn print(text: String) -> ExitCode {
+    print!("{text}");
+    ExitCode::SUCCESS
+}
+
+fn check(functions: &[Function]) -> ExitCode {
     let mut failures = 0;
     let mut fail = |line: String| {
         println!("header: {line}");
@@ -57,10 +57,10 @@ fn main() -> ExitCode {
             fail(format!("{HEADER} does not have {other}"));
         }
     }
-    if source::text(BINDINGS) != rust::bindings(&functions) {
+    if source::text(BINDINGS) != rust::bindings(functions) {
         fail(format!("{BINDINGS} is not what `header --bindings` prints"));
     }
-    if source::text(TABLE) != table::table(&functions) {
+    if source::text(TABLE) != table::table(functions) {
         fail(format!("{TABLE} is not what `header --table` prints"));
     }
     let held = exported.len() + others.len();

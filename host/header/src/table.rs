@@ -6,6 +6,8 @@ const HEAD: &str = "\
 /* The C functions of crates/c_api, all of them, as a table. Written by `host/header --table`, and held to it. */
 ";
 
+const MOST_COLUMNS: usize = 120;
+
 pub fn table(functions: &[Function]) -> String {
     let mut text = HEAD.to_string();
     functions.iter().for_each(|function| text += &wrapper(function));
@@ -28,7 +30,7 @@ fn wrapper(function: &Function) -> String {
     };
     let arguments: Vec<String> = function.parameters.iter().map(|one| &one.kind).enumerate().map(argument).collect();
     let name = &function.name;
-    let call = format!("{name}({})", arguments.join(", "));
+    let call = format!("{name}({})", wrapped(&arguments));
     let unused = if arguments.is_empty() { "    (void)a;\n" } else { "" };
     let body = match function.gives.as_str() {
         "u32" | "usize" => format!("    return {call};\n"),
@@ -45,10 +47,24 @@ fn row(function: &Function) -> String {
             Kind::Read(of) => ("READ", of),
             Kind::Write(of) => ("WRITE", of),
         };
-        format!("        {{\"{name}\", {lent}, {}, sizeof({})}},\n", of.to_uppercase(), type_of(of))
+        format!("{{\"{name}\", {lent}, {}, sizeof({})}}", of.to_uppercase(), type_of(of))
     };
-    let parameters: String = function.parameters.iter().map(|one| parameter(&one.name, &one.kind)).collect();
-    let parameters = if parameters.is_empty() { "{{0}}".to_string() } else { format!("{{\n{parameters}    }}") };
+    let parameters: Vec<String> = function.parameters.iter().map(|one| parameter(&one.name, &one.kind)).collect();
     let (name, count) = (&function.name, function.parameters.len());
-    format!("    {{\"{name}\", call_{name}, {}, {count}, {parameters}}},\n", function.gives.to_uppercase())
+    let parameters = if count == 0 { "{0}".to_string() } else { wrapped(&parameters) };
+    format!("    {{\"{name}\", call_{name}, {}, {count}, {{{parameters}}}}},\n", function.gives.to_uppercase())
+}
+
+/// The parts in lines of their own, as many in each as fit.
+fn wrapped(parts: &[String]) -> String {
+    const INDENT: &str = "\n        ";
+    let (mut text, mut line) = (String::new(), MOST_COLUMNS);
+    for (place, part) in parts.iter().enumerate() {
+        let part = if place + 1 < parts.len() { format!("{part},") } else { part.clone() };
+        let begins = line + 1 + part.len() > MOST_COLUMNS;
+        text += if begins { INDENT } else { " " };
+        line = if begins { INDENT.len() - 1 } else { line + 1 } + part.len();
+        text += &part;
+    }
+    text
 }
