@@ -107,6 +107,14 @@ static void rectangle(double *xs, double *ys, size_t count)
     }
 }
 
+/* A rectangle, and then a star: a ring that crosses itself. */
+static void crossing(double *xs, double *ys, size_t count)
+{
+    rectangle(xs, ys, count < 4 ? count : 4);
+    if (count > 4)
+        star(xs + 4, ys + 4, count - 4);
+}
+
 static void scattered(double *xs, double *ys, size_t count)
 {
     size_t i;
@@ -177,7 +185,7 @@ static void draw_ring(double *xs, double *ys, size_t count)
     case 3: star(xs, ys, count); break;
     case 4: zigzag(xs, ys, count); break;
     case 5: scattered(xs, ys, count); break;
-    default: rectangle(xs, ys, count < 4 ? count : 4), count > 4 ? star(xs + 4, ys + 4, count - 4) : (void)0; break;
+    default: crossing(xs, ys, count); break;
     }
     if (count)
         worn(xs, ys, count);
