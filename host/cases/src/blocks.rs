@@ -35,6 +35,7 @@ pub enum Rows {
 }
 
 /// A byte list that ends with its allocation; the rows of an undamaged block.
+#[derive(Clone)]
 pub struct Lent {
     pub bytes: Box<[u8]>,
     pub rows: Option<Rows>,

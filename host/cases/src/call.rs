@@ -1,5 +1,6 @@
 //! The calls compared: their numbers, names, blocks, refusals and outputs.
 use crate::blocks::Kind;
+use crate::refusals;
 
 /// Each call by its number in the recorded answers; those from 22 to 39 are not recorded.
 #[derive(Clone, Copy, PartialEq, Debug)]
@@ -171,18 +172,16 @@ impl Call {
 
     /// The refusals it has, in document 01's order.
     pub fn refusals(self) -> &'static [u32] {
+        refusals::of(self.name())
+    }
+
+    /// So many of its parameters are floats; those after them are whole numbers.
+    pub fn floats(self) -> usize {
         match self {
-            PolygonSignedArea | PolygonArea | IsCcw | IsAxisAlignedRectangle | BboxFromPoints => &[16, 2, 1],
-            BoxVolume | BoxFootprintBbox | BoxRegionVolume => &[16, 2, 1],
-            PrismVolume | PrismFootprintBbox | PrismRegionVolume => &[16, 15, 2, 1],
-            ExtrudePolygon => &[16, 2, 1, 15],
-            ExtrudeBox => &[1, 15],
-            TotalVolume => &[16, 2, 15, 1],
-            CellCount => &[1, 5, 6, 7],
-            AxisCoordinate => &[1, 5, 6, 7, 15],
-            CheckBlocks | StackLayer => &[14, 1],
-            LookUp | PhysicalName | LayerName | ViaLayers | MaterialNumber => &[14],
-            _ => &[],
+            LayerName | CopyPhysicalName => 0,
+            PrismVolume | PrismFootprintBbox | PrismRegionVolume | PrismZBottom | PrismZTop => 2,
+            AxisCoordinate => 3,
+            _ => 8,
         }
     }
 

@@ -16,6 +16,7 @@ pub type List = Cow<'static, [f64]>;
 /// The cell count has an extent and a cell size, the axis coordinate two ends, a cell size and a place.
 /// A region has its material, net and polygon too; what is extruded, z_bottom and z_top, or six bounds, with a material and a net. Lent are the call's
 /// blocks, then the name asked for.
+#[derive(Clone)]
 pub struct Case {
     pub call: Call,
     pub xs: List,

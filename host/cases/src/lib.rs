@@ -8,7 +8,9 @@ pub mod meshes;
 pub mod models;
 pub mod paper;
 pub mod polygons;
+pub mod refusals;
 pub mod regions;
+pub mod simpler;
 pub mod stacks;
 pub mod welds;
 

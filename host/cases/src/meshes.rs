@@ -15,6 +15,7 @@ pub enum Call {
     MeshPrismRegion,
 }
 
+#[derive(Clone)]
 pub struct Job {
     pub call: Call,
     pub solid: Solid,
@@ -34,6 +35,7 @@ pub struct Job {
     pub lengths: [usize; 6],
 }
 
+#[derive(Clone)]
 pub enum Solid {
     /// min_x, min_y, max_x, max_y, z_bottom, z_top.
     Box([f64; 6]),

@@ -5,6 +5,8 @@ pub(crate) mod room;
 pub mod shapes;
 mod simple;
 
+use crate::refusals;
+
 #[derive(Clone, Copy, PartialEq)]
 pub enum Call {
     DedupRing,
@@ -12,6 +14,7 @@ pub enum Call {
 }
 
 /// A ring, and the lengths of the lists that are written: two for the cleaned ring, one for the corners, which cleaning is not lent.
+#[derive(Clone)]
 pub struct Job {
     pub call: Call,
     pub xs: Vec<f64>,
@@ -82,10 +85,7 @@ impl Call {
 
     /// The refusals it has, in document 01's order.
     pub fn refusals(self) -> &'static [u32] {
-        match self {
-            Call::DedupRing => &[16, 2, 1, 12],
-            Call::TriangulatePolygon => &[16, 2, 1, 3, 4, 12],
-        }
+        refusals::of(self.name())
     }
 
     /// The kinds of answers that are counted; each must be drawn.

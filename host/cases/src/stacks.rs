@@ -10,6 +10,7 @@ use crate::regions::Row;
 /// The six blocks, in order: layer names, conducting, via, conductors, diffusions, vias.
 pub const BLOCKS: [Kind; 6] = [Kind::LayerNames, Kind::Map, Kind::Map, Kind::Stack, Kind::Stack, Kind::Vias];
 
+#[derive(Clone)]
 pub struct Job {
     pub blocks: Vec<Lent>,
     pub layers: Vec<i16>,
@@ -70,8 +71,8 @@ pub const WAYS: [(Way, &str); 13] = [
     (Inverted, "inverted"),
 ];
 
-/// The refusals of the call, in document 01's order.
-pub const REFUSALS: [u32; 6] = [14, 1, 16, 2, 15, 12];
+/// The exported name without `openrdson_`.
+pub const NAME: &str = "assemble_stack";
 
 impl Job {
     /// The job of this number; it depends on nothing else.

@@ -21,6 +21,7 @@ pub struct Mesh {
     pub regions: Vec<u32>,
 }
 
+#[derive(Clone)]
 pub struct Job {
     pub call: Call,
     pub mesh: Mesh,
@@ -230,6 +231,12 @@ impl Mesh {
     /// How many nodes and elements there are, if the lists are parallel.
     pub fn sizes(&self) -> [usize; 2] {
         [self.coordinates[0].len(), self.kinds.len()]
+    }
+
+    /// Whether every entry is the same, floats by their bits.
+    pub fn same(&self, other: &Mesh) -> bool {
+        let bits = |mesh: &Mesh| mesh.coordinates.each_ref().map(|list| list.iter().map(|x| x.to_bits()).collect::<Vec<_>>());
+        bits(self) == bits(other) && self.kinds == other.kinds && self.places == other.places && self.regions == other.regions
     }
 
     pub fn node(&self, place: usize) -> [f64; 3] {

@@ -5,8 +5,8 @@ pub const USAGE: &str = "\
 compare [--cases N] [--seed S] [--call NAME]     N cases a call (100,000; twelve times as many of sqrt,
                                                  a fifth of the calls on regions, models and whole meshes and
                                                  of assemble_stack, half as many of mesh_box and of mesh_prism;
-                                                 of layouts stacked and meshed, layout_to_mesh, a fiftieth)
-compare --seconds T [--seed S] [--call NAME]     rounds of cases until T seconds have passed
+                                                 of layouts on their way to a volume, layout_to_volume, a fiftieth)
+compare --seconds T [--seed S] [--call NAME]     the long run: T seconds, each call as long as every other
 compare --roots [--seed S]                       12,000,000 square roots, a million near a middle of two floats
 compare --call NAME --number N [--seed S]        one case, printed";
 

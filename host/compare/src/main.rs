@@ -4,9 +4,12 @@ mod compared;
 mod layouts;
 mod meshes;
 mod models;
+mod plain;
 mod polygons;
+mod progress;
+mod show;
 mod stacks;
-mod tally;
+mod table;
 mod welds;
 
 use args::Args;
@@ -15,19 +18,22 @@ use cases::meshes::Call::{MeshBox, MeshBoxRegion, MeshPrism, MeshPrismRegion};
 use cases::models::Call::{MeshModel, MeshModelWithOptions};
 use cases::polygons::Call::{DedupRing, TriangulatePolygon};
 use cases::welds::Call::{MeshVolume, WeldNodes};
-use compared::Compared;
+use compared::{Cases, Compared, Tally};
 use layouts::Layouts;
 use meshes::Meshes;
 use models::Models;
+use plain::Plain;
 use polygons::Polygons;
+use progress::Progress;
 use stacks::Stacks;
 use std::process::ExitCode;
-use std::time::Instant;
-use tally::Tally;
+use std::time::{Duration, Instant};
+use table::Row;
 use welds::Welds;
 
-/// Cases a call in one round of the long run.
-const ROUND: u64 = 2000;
+/// How long a call runs in one round of the long run, and after how many cases the time is looked at.
+const TURN: Duration = Duration::from_millis(50);
+const BATCH: u64 = 20;
 
 type Calls = Vec<Box<dyn Compared>>;
 
@@ -39,30 +45,27 @@ fn main() -> ExitCode {
             return ExitCode::from(2);
         }
     };
-    match args.number {
-        Some(number) => run_one(&args, &mut calls, number),
-        None => run(&args, &mut calls),
+    match (args.number, args.seconds) {
+        (Some(number), _) => run_one(&args, &mut calls, number),
+        (None, Some(seconds)) => run_long(&args, &mut calls, seconds),
+        (None, None) => run(&args, &mut calls),
     }
-    report(&calls)
+    report(&calls, args.seconds.is_some() && args.number.is_none())
+}
+
+fn boxed(of: impl Cases + 'static) -> Box<dyn Compared> {
+    Box::new(Tally::new(of))
 }
 
 /// The call that is named, or every one.
 fn named(args: &Args) -> Result<Calls, String> {
-    let mut calls: Calls = CALLS.into_iter().map(|call| Box::new(Tally::new(call)) as Box<dyn Compared>).collect();
-    calls.push(Box::new(Stacks::default()));
-    for call in [DedupRing, TriangulatePolygon] {
-        calls.push(Box::new(Polygons::new(call)));
-    }
-    for call in [MeshBox, MeshPrism, MeshBoxRegion, MeshPrismRegion] {
-        calls.push(Box::new(Meshes::new(call)));
-    }
-    for call in [MeshModel, MeshModelWithOptions] {
-        calls.push(Box::new(Models::new(call)));
-    }
-    for call in [WeldNodes, MeshVolume] {
-        calls.push(Box::new(Welds::new(call)));
-    }
-    calls.push(Box::new(Layouts::default()));
+    let mut calls: Calls = CALLS.into_iter().map(|call| boxed(Plain::new(call))).collect();
+    calls.push(boxed(Stacks::default()));
+    calls.extend([DedupRing, TriangulatePolygon].map(|call| boxed(Polygons::new(call))));
+    calls.extend([MeshBox, MeshPrism, MeshBoxRegion, MeshPrismRegion].map(|call| boxed(Meshes::new(call))));
+    calls.extend([MeshModel, MeshModelWithOptions].map(|call| boxed(Models::new(call))));
+    calls.extend([WeldNodes, MeshVolume].map(|call| boxed(Welds::new(call))));
+    calls.push(boxed(Layouts::default()));
     if let Some(name) = &args.call {
         calls.retain(|call| call.name() == name);
         if calls.is_empty() {
@@ -75,30 +78,51 @@ fn named(args: &Args) -> Result<Calls, String> {
 fn run_one(args: &Args, calls: &mut Calls, number: u64) {
     for call in calls {
         call.run(args.seed, number..number + 1);
-        if !call.failed() {
-            print!("{}", call.shown(args.seed, number));
-        }
+        print!("{} {number} of seed {}\n{}", call.name(), args.seed, call.shown(args.seed, number));
     }
 }
 
 fn run(args: &Args, calls: &mut Calls) {
-    let begin = Instant::now();
-    let mut from = 0;
-    loop {
-        let to = if args.seconds.is_some() { from + ROUND } else { args.cases };
-        for call in &mut *calls {
-            call.run(args.seed, call.share(from)..call.share(to));
-        }
-        match args.seconds {
-            Some(seconds) if begin.elapsed() < seconds => from = to,
-            _ => return,
-        }
+    for call in calls {
+        call.run(args.seed, 0..call.share(args.cases));
     }
 }
 
-fn report(calls: &Calls) -> ExitCode {
-    calls.iter().for_each(|call| println!("{call}"));
-    let failed = calls.iter().filter(|call| call.failed()).count();
-    println!("{} calls compared with the Rust, {failed} failed", calls.len());
+/// Rounds, in each of which a call gets its turn; one that took longer waits until the others have caught up.
+fn run_long(args: &Args, calls: &mut Calls, total: Duration) {
+    let mut progress = Progress::new(total);
+    let mut taken = vec![Duration::ZERO; calls.len()];
+    let mut due = Duration::ZERO;
+    while !progress.is_over() {
+        due += TURN;
+        for (i, taken) in taken.iter_mut().enumerate() {
+            while *taken < due && !progress.is_over() {
+                let begin = Instant::now();
+                let from = calls[i].cases();
+                calls[i].run(args.seed, from..from + BATCH);
+                *taken += begin.elapsed();
+            }
+            progress.tell(sum(calls, |call| call.cases()), sum(calls, |call| call.mismatches()));
+        }
+    }
+    progress::clear();
+}
+
+fn sum(calls: &Calls, of: impl Fn(&dyn Compared) -> u64) -> u64 {
+    calls.iter().map(|call| of(&**call)).sum()
+}
+
+/// In a long run every number and every kind must have been seen, however many cases there were.
+fn report(calls: &Calls, is_long: bool) -> ExitCode {
+    calls.iter().map(|call| call.line()).filter(|line| !line.is_empty()).for_each(|line| println!("{line}"));
+    let rows: Vec<Row> = calls.iter().flat_map(|call| call.rows()).collect();
+    table::print(&rows);
+    let mut failed = 0;
+    for call in calls {
+        let wrong = call.wrong(is_long);
+        wrong.iter().for_each(|what| println!("FAILED {}: {what}", call.name()));
+        failed += !wrong.is_empty() as usize;
+    }
+    println!("{} calls compared with the Rust, {} cases, {failed} failed", calls.len(), sum(calls, |call| call.cases()));
     if failed == 0 { ExitCode::SUCCESS } else { ExitCode::FAILURE }
 }

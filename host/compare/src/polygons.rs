@@ -1,26 +1,28 @@
-//! The comparison of the calls on a ring that write lists.
-use crate::compared::Compared;
-use crate::tally::show_list;
+//! The calls on a ring that write lists.
+use crate::compared::{Cases, Said};
+use crate::show::show_list;
 use cases::expected::polygons as expected;
 use cases::polygons::{Call, Given, Job, KINDS};
 use rattle::polygons::{answer, Left};
 use std::fmt;
 
-/// Jobs after which a status or a kind that was never drawn is a failure.
-const ENOUGH: u64 = 2000;
-
-/// Mismatches that are printed.
-const PRINTED: u64 = 5;
-
 pub struct Polygons {
     call: Call,
-    jobs: u64,
-    by_status: [u64; 17],
     by_kind: [u64; KINDS],
-    mismatches: u64,
 }
 
-impl Compared for Polygons {
+impl Polygons {
+    pub fn new(call: Call) -> Self {
+        Polygons { call, by_kind: [0; KINDS] }
+    }
+}
+
+impl Cases for Polygons {
+    type Job = Job;
+    type Expected = Result<Given, u32>;
+
+    const ENOUGH: u64 = 2000;
+
     fn name(&self) -> &'static str {
         self.call.name()
     }
@@ -29,81 +31,30 @@ impl Compared for Polygons {
         cases
     }
 
-    fn run(&mut self, seed: u64, numbers: std::ops::Range<u64>) {
-        for number in numbers {
-            let job = Job::draw(self.call, seed, number);
-            let expected = expected::answer(&job);
-            self.count(&expected);
-            if !answer(&job).same(&Left::expected(&job, &expected)) {
-                self.mismatches += 1;
-                if self.mismatches <= PRINTED {
-                    print!("MISMATCH {}", Shown { job: &job, seed, number });
-                }
-            }
+    fn draw(&self, seed: u64, number: u64) -> Job {
+        Job::draw(self.call, seed, number)
+    }
+
+    fn expected(&self, job: &Job) -> Self::Expected {
+        expected::answer(job)
+    }
+
+    fn said(&self, job: &Job, expected: &Self::Expected) -> Said {
+        let said = answer(job);
+        Said { status: said.status, is_same: said.same(&Left::expected(job, expected)) }
+    }
+
+    fn count(&mut self, _: &Job, expected: &Self::Expected) {
+        if let Ok(given) = expected {
+            given.kinds.iter().for_each(|kind| self.by_kind[*kind as usize] += 1);
         }
     }
 
-    fn failed(&self) -> bool {
-        self.mismatches > 0 || self.jobs >= ENOUGH && self.never_drawn()
+    fn counts(&self) -> Vec<(String, u64)> {
+        self.call.kinds().iter().map(|kind| (kind.name().into(), self.by_kind[*kind as usize])).collect()
     }
 
-    fn shown(&self, seed: u64, number: u64) -> String {
-        Shown { job: &Job::draw(self.call, seed, number), seed, number }.to_string()
-    }
-}
-
-impl Polygons {
-    pub fn new(call: Call) -> Self {
-        Polygons { call, jobs: 0, by_status: [0; 17], by_kind: [0; KINDS], mismatches: 0 }
-    }
-
-    fn count(&mut self, answer: &Result<Given, u32>) {
-        self.jobs += 1;
-        match answer {
-            Err(refusal) => self.by_status[*refusal as usize] += 1,
-            Ok(given) => {
-                self.by_status[0] += 1;
-                given.kinds.iter().for_each(|kind| self.by_kind[*kind as usize] += 1);
-            }
-        }
-    }
-
-    fn never_drawn(&self) -> bool {
-        let statuses = [0].iter().chain(self.call.refusals()).map(|status| self.by_status[*status as usize]);
-        statuses.chain(self.call.kinds().iter().map(|kind| self.by_kind[*kind as usize])).any(|cases| cases == 0)
-    }
-}
-
-impl fmt::Display for Polygons {
-    fn fmt(&self, f: &mut fmt::Formatter) -> fmt::Result {
-        write!(f, "{:26}{:9} cases;  0: {}", self.name(), self.jobs, self.by_status[0])?;
-        for refusal in self.call.refusals() {
-            write!(f, "  {refusal}: {}", self.by_status[*refusal as usize])?;
-        }
-        for kind in self.call.kinds() {
-            write!(f, "  {}: {}", kind.name(), self.by_kind[*kind as usize])?;
-        }
-        if self.mismatches > 0 {
-            write!(f, "  MISMATCHES: {}", self.mismatches)?;
-        }
-        if self.failed() && self.never_drawn() {
-            write!(f, "  A STATUS OR KIND WAS NEVER DRAWN")?;
-        }
-        Ok(())
-    }
-}
-
-/// A job with its input, and what each side leaves.
-struct Shown<'a> {
-    job: &'a Job,
-    seed: u64,
-    number: u64,
-}
-
-impl fmt::Display for Shown<'_> {
-    fn fmt(&self, f: &mut fmt::Formatter) -> fmt::Result {
-        let job = self.job;
-        writeln!(f, "compare --call {} --seed {} --number {}", job.call.name(), self.seed, self.number)?;
+    fn show(&self, f: &mut fmt::Formatter, job: &Job) -> fmt::Result {
         show_list(f, "xs", &job.xs)?;
         show_list(f, "ys", &job.ys)?;
         writeln!(f, "  room for points: {:?}, for corners: {}", job.room, job.corners)?;

@@ -1,6 +1,7 @@
 //! The calls that mesh a region, and what they left in the lists that they were lent.
 use crate::exports::Bbox;
 use cases::meshes::{Call, Fault, Given, Job, Solid};
+use cases::welds::Mesh;
 
 type List = *const f64;
 type Out = *mut f64;
@@ -103,6 +104,17 @@ impl Left {
         self.places[8 * elements..8 * (elements + more)].copy_from_slice(&given.places);
         self.regions[elements..elements + more].copy_from_slice(regions);
         self.counts = [nodes + given.nodes.len(), elements + more];
+    }
+
+    /// The mesh that the counts tell of.
+    pub fn mesh(&self) -> Mesh {
+        let [nodes, elements] = self.counts;
+        Mesh {
+            coordinates: self.coordinates.each_ref().map(|list| list.iter().take(nodes).copied().collect()),
+            kinds: self.kinds.iter().take(elements).copied().collect(),
+            places: self.places.iter().take(elements.saturating_mul(8)).copied().collect(),
+            regions: self.regions.iter().take(elements).copied().collect(),
+        }
     }
 
     /// Whether every entry is the same, floats by their bits.

@@ -40,11 +40,22 @@ impl Left {
 
     /// What is expected: a refusal leaves everything; an accepted call writes its nodes and elements, or its volume, and leaves the rest.
     pub fn expected<T>(job: &Job, answer: &Result<(Given, T), Fault>) -> Left {
-        let mut after = Left::before(job);
         match answer {
-            Err(fault) => after.mesh.status = fault.status(),
-            Ok((Given::Volume(volume), _)) => after.volume = *volume,
-            Ok((Given::Welded { mesh, regions }, _)) => {
+            Ok((given, _)) => Left::given(job, given),
+            Err(fault) => {
+                let mut after = Left::before(job);
+                after.mesh.status = fault.status();
+                after
+            }
+        }
+    }
+
+    /// The same of an accepted call.
+    pub fn given(job: &Job, given: &Given) -> Left {
+        let mut after = Left::before(job);
+        match given {
+            Given::Volume(volume) => after.volume = *volume,
+            Given::Welded { mesh, regions } => {
                 after.mesh.counts = [0; 2];
                 after.mesh.append(mesh, regions);
             }

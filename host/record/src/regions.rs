@@ -3,8 +3,9 @@ use crate::sample::{Sample, Wanted, SEED};
 use cases::call::{Call, RECORDED_REGIONS, RECORDED_STACKS};
 use cases::case::{word, Answer, Case};
 use cases::expected;
+use cases::refusals;
 use cases::regions::{Regions, Row};
-use cases::stacks::{Given, Job, BLOCKS, REFUSALS};
+use cases::stacks::{Given, Job, BLOCKS, NAME};
 
 /// Cases of each call that are looked at.
 const LOOKED_AT: u64 = 40_000;
@@ -60,7 +61,7 @@ fn take(sample: &mut Sample, call: Call) {
 }
 
 fn stacks(sample: &mut Sample) {
-    let mut wanted = wanted(&REFUSALS);
+    let mut wanted = wanted(refusals::of(NAME));
     for number in 0..LOOKED_AT {
         let job = Job::draw(SEED, number);
         if !is_small(&job) {
