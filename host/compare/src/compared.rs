@@ -1,7 +1,6 @@
 //! A call's cases on both sides: how they are drawn and counted, and what is said of one on which the sides differ.
 use crate::progress;
 use crate::table::{Row, Statuses};
-use cases::refusals::DIAGNOSTICS;
 use cases::simpler::{smallest, Simpler};
 use std::fmt;
 use std::ops::Range;
@@ -71,8 +70,8 @@ pub trait Compared {
     /// What was counted beside the statuses; empty if nothing was.
     fn line(&self) -> String;
 
-    /// What is wrong; a count or a number that is missing only if the cases are enough, or must be.
-    fn wrong(&self, must_be_enough: bool) -> Vec<String>;
+    /// What is wrong; a number that is missing if the run is long or the cases are enough, a count if they are enough.
+    fn wrong(&self, is_long: bool) -> Vec<String>;
 
     /// The case of this number, with its input.
     fn shown(&self, seed: u64, number: u64) -> String;
@@ -139,9 +138,8 @@ impl<C: Cases> Compared for Tally<C> {
     }
 
     fn rows(&self) -> Vec<Row> {
-        let own = Row::new(self.name(), self.name(), self.answered);
-        let diagnostics = self.of.diagnostics().map(|answered| Row::new("  its diagnostics", DIAGNOSTICS, answered));
-        std::iter::once(own).chain(diagnostics).collect()
+        let diagnostics = self.of.diagnostics().map(|written| Row::of_diagnostics(self.name(), written));
+        std::iter::once(Row::of_call(self.name(), self.answered)).chain(diagnostics).collect()
     }
 
     fn line(&self) -> String {
@@ -149,16 +147,18 @@ impl<C: Cases> Compared for Tally<C> {
         if counts.is_empty() { String::new() } else { format!("{}:{}", self.name(), counts.concat()) }
     }
 
-    fn wrong(&self, must_be_enough: bool) -> Vec<String> {
+    fn wrong(&self, is_long: bool) -> Vec<String> {
         let rows = self.rows();
         let mut wrong: Vec<String> = rows.iter().flat_map(Row::not_its_own).collect();
         if self.mismatches > 0 {
-            wrong.push(format!("{} mismatches", self.mismatches));
+            wrong.push(format!("mismatches: {}", self.mismatches));
         }
-        if must_be_enough || self.cases() >= C::ENOUGH {
+        if is_long || self.cases() >= C::ENOUGH {
             wrong.extend(rows.iter().flat_map(Row::not_seen));
+        }
+        if self.cases() >= C::ENOUGH {
             let counts = self.of.counts().into_iter().filter(|count| count.1 == 0);
-            wrong.extend(counts.map(|(name, _)| format!("{name}: never drawn")));
+            wrong.extend(counts.map(|(name, _)| format!("{name} was not seen")));
         }
         wrong
     }

@@ -1,5 +1,5 @@
 //! The table of cases by call and by status.
-use cases::refusals;
+use cases::refusals::{self, DIAGNOSTICS};
 
 /// The statuses that have a column: accepted, and document 01's refusals but for 10.
 const COLUMNS: [u32; 16] = [0, 1, 2, 3, 4, 5, 6, 7, 8, 9, 11, 12, 13, 14, 15, 16];
@@ -22,17 +22,26 @@ impl Statuses {
     }
 }
 
-/// What a call answered, beside what document 01 lets it answer.
+/// What a call answered, or the diagnostics that it wrote, beside what document 01 lets it.
 pub struct Row {
-    name: String,
+    call: &'static str,
+    is_diagnostics: bool,
     can: &'static [u32],
     answered: Statuses,
 }
 
 impl Row {
-    /// The refusals are those of this call.
-    pub fn new(name: &str, call: &str, answered: Statuses) -> Row {
-        Row { name: name.into(), can: refusals::of(call), answered }
+    pub fn of_call(call: &'static str, answered: Statuses) -> Row {
+        Row { call, is_diagnostics: false, can: refusals::of(call), answered }
+    }
+
+    pub fn of_diagnostics(call: &'static str, answered: Statuses) -> Row {
+        Row { call, is_diagnostics: true, can: refusals::of(DIAGNOSTICS), answered }
+    }
+
+    /// What a number is, in a sentence.
+    fn number(&self) -> &str {
+        if self.is_diagnostics { "the diagnostic" } else { "the status" }
     }
 
     fn can_give(&self, status: u32) -> bool {
@@ -42,13 +51,13 @@ impl Row {
     /// Statuses that document 01 gives it, and that were not answered.
     pub fn not_seen(&self) -> Vec<String> {
         let missing = COLUMNS.into_iter().filter(|status| self.can_give(*status) && self.answered.of(*status) == 0);
-        missing.map(|status| format!("{}: {status} was never answered", self.name.trim())).collect()
+        missing.map(|status| format!("{} {status} was not seen", self.number())).collect()
     }
 
     /// Statuses that were answered, and that document 01 does not give it.
     pub fn not_its_own(&self) -> Vec<String> {
         let others = (0..18).filter(|status| !self.can_give(*status) && self.answered.of(*status) > 0);
-        others.map(|status| format!("{}: {status} was answered, which document 01 does not give it", self.name.trim())).collect()
+        others.map(|status| format!("{} {status} was seen, which document 01 does not give it", self.number())).collect()
     }
 
     fn cells(&self) -> Vec<String> {
@@ -56,7 +65,8 @@ impl Row {
             0 if !self.can_give(status) => ".".into(),
             cases => cases.to_string(),
         };
-        let first = [self.name.clone(), self.answered.total().to_string()];
+        let name = if self.is_diagnostics { "  its diagnostics" } else { self.call };
+        let first = [name.into(), self.answered.total().to_string()];
         first.into_iter().chain(COLUMNS.map(cell)).collect()
     }
 }

@@ -1,5 +1,5 @@
 //! The calls that give some values.
-use super::lists::{all, cut, entries, leave_out, moved, plainer, with};
+use super::lists::{all, cut, entries, leave_out, moved, plainer, with, LONG};
 use super::{blocks, Simpler, Tries};
 use crate::case::Case;
 use crate::regions::Regions;
@@ -7,16 +7,18 @@ use std::ops::Range;
 
 impl Simpler for Case {
     fn simpler(&self) -> Tries<'_, Case> {
-        all([
-            regions_cut(self, &self.regions, |copy| &mut copy.regions),
-            points_cut(self),
-            lent(self),
+        let mut shorter = [regions_cut(self, &self.regions, |copy| &mut copy.regions), points_cut(self), lent(self)];
+        if self.xs.len() > LONG {
+            shorter.swap(0, 1);
+        }
+        let plainer = [
             regions_plainer(self, &self.regions, |copy| &mut copy.regions),
             params(self),
             entries(self, &self.region, |copy, place, plain| copy.region[place] = plain),
             entries(self, &self.xs, |copy, place, plain| copy.xs.to_mut()[place] = plain),
             entries(self, &self.ys, |copy, place, plain| copy.ys.to_mut()[place] = plain),
-        ])
+        ];
+        all(shorter.into_iter().chain(plainer))
     }
 }
 

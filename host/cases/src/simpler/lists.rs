@@ -10,6 +10,9 @@ pub fn with<T: Clone>(job: &T, change: impl FnOnce(&mut T)) -> T {
     copy
 }
 
+/// Lists of more entries are cut before what stands in them is.
+pub const LONG: usize = 4096;
+
 /// All of these tries, one after the other.
 pub fn all<'a, T: 'a>(tries: impl IntoIterator<Item = Tries<'a, T>>) -> Tries<'a, T> {
     let tries: Vec<Tries<'a, T>> = tries.into_iter().collect();
@@ -47,8 +50,12 @@ pub trait Plain: Copy + 'static {
 impl Plain for f64 {
     fn plainer(self) -> Tries<'static, f64> {
         let bits = self.to_bits();
-        let rounded = [0, bits >> 52 << 52, bits >> 26 << 26, bits & bits.wrapping_sub(1)].map(f64::from_bits);
-        let plain = [0.0, 1.0, self.abs(), self.trunc()].into_iter().chain(rounded);
+        let rounded = [bits >> 52 << 52, bits >> 26 << 26, bits & bits.wrapping_sub(1)];
+        // The exponent half way to that of 1, and one step nearer to it.
+        let exponent = bits >> 52 & 0x7ff;
+        let nearer = if exponent < 1023 { exponent + 1 } else { exponent - 1 };
+        let scaled = [(exponent + 1023) / 2, nearer].map(|exponent| bits & !(0x7ff << 52) | exponent << 52);
+        let plain = [0.0, 1.0, self.abs(), self.trunc()].into_iter().chain(rounded.into_iter().chain(scaled).map(f64::from_bits));
         Box::new(plain.filter(move |x| digits(*x) < digits(self)))
     }
 }

@@ -1,15 +1,16 @@
 //! The calls that mesh a model.
 use super::cases::{move_parts, regions_cut, regions_plainer};
-use super::lists::{all, cut, entries, leave_out, lengths, plainer};
+use super::lists::{all, cut, entries, leave_out, lengths, plainer, LONG};
 use super::{Simpler, Tries};
 use crate::models::Job;
 
 impl Simpler for Job {
     fn simpler(&self) -> Tries<'_, Job> {
-        all([
-            regions_cut(self, &self.regions, |copy| &mut copy.regions),
-            points_cut(self),
-            overrides_cut(self),
+        let mut shorter = [regions_cut(self, &self.regions, |copy| &mut copy.regions), points_cut(self), overrides_cut(self)];
+        if self.xs.len() > LONG {
+            shorter.swap(0, 1);
+        }
+        let plainer = [
             lengths(self, self.lengths, |copy, plain| copy.lengths = plain),
             entries(self, &self.counts, |copy, place, plain| copy.counts[place] = plain),
             plainer(self, self.diagnostics, |copy, plain| copy.diagnostics = plain),
@@ -20,7 +21,8 @@ impl Simpler for Job {
             entries(self, &self.overrides.sizes[1], |copy, place, plain| copy.overrides.sizes[1][place] = plain),
             entries(self, &self.xs, |copy, place, plain| copy.xs.to_mut()[place] = plain),
             entries(self, &self.ys, |copy, place, plain| copy.ys.to_mut()[place] = plain),
-        ])
+        ];
+        all(shorter.into_iter().chain(plainer))
     }
 }
 

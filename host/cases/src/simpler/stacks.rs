@@ -1,12 +1,15 @@
 //! Stacking.
-use super::lists::{all, cut, entries, leave_out, moved, plainer, with};
+use super::lists::{all, cut, entries, leave_out, moved, plainer, with, LONG};
 use super::{blocks, Simpler, Tries};
 use crate::stacks::{Job, BLOCKS};
 
 impl Simpler for Job {
     fn simpler(&self) -> Tries<'_, Job> {
         let numbers = (0..3).map(|list| entries(self, &self.polygons[list], move |copy, place, plain| copy.polygons[list][place] = plain));
-        let shorter = [polygons_cut(self), points_cut(self), lent(self)];
+        let mut shorter = [polygons_cut(self), points_cut(self), lent(self)];
+        if self.xs.len() > LONG {
+            shorter.swap(0, 1);
+        }
         let plainer = [
             plainer(self, self.regions.into_iter().min().unwrap_or(0), |copy, plain| copy.regions = [plain; 12]),
             entries(self, &self.regions, |copy, place, plain| copy.regions[place] = plain),
