@@ -1,11 +1,56 @@
-//! Blocks and names: fewer rows, fewer bytes, plainer bytes.
+//! Blocks and names: fewer rows, fewer bytes, plainer bytes; and a name that is one letter wherever it stands.
 use super::lists::{all, cut, leave_out, with};
 use super::Tries;
 use crate::blocks::{Kind, Lent, Rows};
+use std::collections::BTreeSet;
 use std::ops::Range;
 
+/// What is lent to a call: blocks of these kinds, then perhaps a name.
+pub fn all_simpler<'a>(lent: &'a [Lent], kinds: &'a [Kind]) -> Tries<'a, Vec<Lent>> {
+    let each = lent.iter().enumerate().flat_map(move |(place, one)| {
+        simpler(one, kinds.get(place).copied()).map(move |simpler| with(&lent.to_vec(), |copy| copy[place] = simpler))
+    });
+    let names: BTreeSet<[u8; CELL]> = lent.iter().zip(kinds).flat_map(|(one, kind)| cells(one, *kind).map(|at| cell(one, at))).collect();
+    let long = (b'a'..=b'z').zip(names.into_iter().filter(|name| name[1] != 0));
+    Box::new(long.map(move |(letter, name)| renamed(lent, kinds, name, letter)).chain(each))
+}
+
+/// The bytes of a name cell.
+const CELL: usize = 32;
+
+/// Where name cells stand in a block.
+fn cells(lent: &Lent, kind: Kind) -> impl Iterator<Item = usize> {
+    let (key, value) = kind.widths();
+    let rows = lent.bytes.len().saturating_sub(2) / (key + value);
+    let keys = if key == CELL { rows } else { 0 };
+    let values = if value % CELL == 0 { rows * value / CELL } else { 0 };
+    (0..keys).map(|i| 2 + i * CELL).chain((0..values).map(move |i| 2 + rows * key + i * CELL))
+}
+
+fn cell(lent: &Lent, at: usize) -> [u8; CELL] {
+    lent.bytes[at..at + CELL].try_into().unwrap()
+}
+
+/// The same with this letter for a name.
+fn renamed(lent: &[Lent], kinds: &[Kind], name: [u8; CELL], letter: u8) -> Vec<Lent> {
+    let mut copy = lent.to_vec();
+    for (one, kind) in copy.iter_mut().zip(kinds) {
+        let named: Vec<usize> = cells(one, *kind).filter(|at| cell(one, *at) == name).collect();
+        for at in named {
+            one.bytes[at..at + CELL].fill(0);
+            one.bytes[at] = letter;
+            one.rows = None;
+        }
+    }
+    let length = name.iter().position(|byte| *byte == 0).unwrap_or(CELL);
+    for one in copy[kinds.len()..].iter_mut().filter(|one| *one.bytes == name[..length]) {
+        *one = Lent::name(vec![letter]);
+    }
+    copy
+}
+
 /// A block of this kind, or a name.
-pub fn simpler(lent: &Lent, kind: Option<Kind>) -> Tries<'_, Lent> {
+fn simpler(lent: &Lent, kind: Option<Kind>) -> Tries<'_, Lent> {
     let rows = lent.rows.as_ref().map_or(0, Rows::count);
     let by_rows = cut(lent, rows, |copy, part| *copy = Lent::block(without(lent.rows.clone().unwrap(), part)));
     let in_bytes = counted(lent, kind);

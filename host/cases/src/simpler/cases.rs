@@ -39,10 +39,7 @@ fn points_cut(case: &Case) -> Tries<'_, Case> {
 }
 
 fn lent(case: &Case) -> Tries<'_, Case> {
-    let kinds = case.call.blocks();
-    Box::new(case.lent.iter().enumerate().flat_map(move |(place, one)| {
-        blocks::simpler(one, kinds.get(place).copied()).map(move |simpler| with(case, |copy| copy.lent[place] = simpler))
-    }))
+    Box::new(blocks::all_simpler(&case.lent, case.call.blocks()).map(move |lent| with(case, |copy| copy.lent = lent)))
 }
 
 fn params(case: &Case) -> Tries<'_, Case> {

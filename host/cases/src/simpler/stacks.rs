@@ -40,7 +40,5 @@ fn points_cut(job: &Job) -> Tries<'_, Job> {
 }
 
 fn lent(job: &Job) -> Tries<'_, Job> {
-    Box::new(job.blocks.iter().zip(BLOCKS).enumerate().flat_map(move |(place, (block, kind))| {
-        blocks::simpler(block, Some(kind)).map(move |simpler| with(job, |copy| copy.blocks[place] = simpler))
-    }))
+    Box::new(blocks::all_simpler(&job.blocks, &BLOCKS).map(move |blocks| with(job, |copy| copy.blocks = blocks)))
 }
