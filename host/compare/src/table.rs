@@ -54,10 +54,10 @@ impl Row {
         missing.map(|status| format!("{} {status} was not seen", self.number())).collect()
     }
 
-    /// Statuses that were answered, and that document 01 does not give it.
+    /// Statuses that were answered, and that are not in its row of the refusals.
     pub fn not_its_own(&self) -> Vec<String> {
         let others = (0..18).filter(|status| !self.can_give(*status) && self.answered.of(*status) > 0);
-        others.map(|status| format!("{} {status} was seen, which document 01 does not give it", self.number())).collect()
+        others.map(|status| format!("{} {status} was seen, and is not among its refusals", self.number())).collect()
     }
 
     fn cells(&self) -> Vec<String> {
