@@ -4,7 +4,7 @@ use cases::blocks::{Layer, Rows, Via};
 use oracle::core::layout::LayoutIR;
 use oracle::core::tech::{self, Conductor, Diffusion, LayerMap, TechStack};
 use oracle::geometry::{assemble_stack, reach};
-use ::rattle::exports::*;
+use ::rattle::raw::*;
 use std::collections::BTreeMap;
 use std::hint::black_box;
 use std::sync::Arc;

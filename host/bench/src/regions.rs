@@ -4,7 +4,7 @@ use crate::row::{effort, plain, Row, Sides, SHORT};
 use cases::regions::{Regions, Row as RegionRow, NO_POLYGON};
 use oracle::core::geometry::{Point, Solid, SolidRegion};
 use oracle::geometry::{extrude_polygon, total_volume};
-use rattle::exports::*;
+use rattle::raw::*;
 use std::hint::black_box;
 
 /// The most regions of a job.

@@ -2,7 +2,7 @@
 use crate::inputs::{circle, on_four_corners, Ring};
 use crate::row::{plain, Row, Sides, SHORT};
 use oracle::core::geometry::{is_axis_aligned_rectangle, polygon_signed_area, Bbox};
-use rattle::exports::*;
+use rattle::raw::*;
 use std::hint::black_box;
 
 pub fn rows() -> Vec<Row> {

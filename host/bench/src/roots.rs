@@ -1,7 +1,7 @@
 //! The square root. The Rust's is the processor's.
 use crate::inputs::values;
 use crate::row::{effort, plain, Effort, Row, Sides};
-use rattle::exports::openrdson_sqrt;
+use rattle::raw::openrdson_sqrt;
 use std::hint::black_box;
 
 pub fn rows() -> Vec<Row> {

@@ -3,7 +3,7 @@ use crate::source::{Function, Kind};
 
 const HEAD: &str = "\
 //! The C functions of crates/c_api, all of them. Written by `host/header --bindings`, and held to it.
-use crate::core::geometry::{Bbox, Point};
+pub use crate::core::geometry::{Bbox, Point};
 
 extern \"C\" {
 ";

@@ -2,8 +2,7 @@
 //! that is written is lent once. The archive keeps none of them, and does not write past a list's length: it is proved.
 #![allow(unsafe_code)]
 
-#[allow(dead_code)]
-mod raw;
+pub mod raw;
 
 use crate::core::geometry::{Bbox, Point};
 use crate::geometry::blocks::Blocks;

@@ -22,6 +22,10 @@ mod lists;
 pub mod meshing;
 mod refusal;
 
+/// The C functions themselves, `unsafe`, for host/rattle.
+#[doc(hidden)]
+pub use calls::raw;
+
 pub use crate::core::geometry::*;
 pub use crate::core::layout::*;
 pub use crate::core::mesh::*;

@@ -1,5 +1,4 @@
 //! The Rattle side: its C functions, and its answer to a case.
-pub mod exports;
 mod lookups;
 pub mod meshes;
 pub mod models;
@@ -11,10 +10,11 @@ pub mod welds;
 
 use cases::call::Call::*;
 use cases::case::{Answer, Case};
-use exports::*;
 pub use lookups::answer as answer_on;
+pub use openrdson::raw;
 use outputs::{plain, Outputs};
 pub use outputs::Said;
+use raw::*;
 
 pub fn answer(case: &Case) -> Said {
     let (xs, nx, ys, ny) = (case.xs.as_ptr(), case.xs.len(), case.ys.as_ptr(), case.ys.len());

@@ -1,6 +1,6 @@
 //! The calls on name blocks.
-use crate::exports::*;
 use crate::outputs::{plain, Outputs, Said};
+use crate::raw::*;
 use cases::call::Call::*;
 use cases::case::{Answer, Case, BEFORE, COPY};
 

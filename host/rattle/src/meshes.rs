@@ -1,43 +1,7 @@
 //! The calls that mesh a region, and what they left in the lists that they were lent.
-use crate::exports::Bbox;
+use crate::raw::*;
 use cases::meshes::{Call, Fault, Given, Job, Solid};
 use cases::welds::Mesh;
-
-type List = *const f64;
-type Out = *mut f64;
-type Numbers = *mut u32;
-
-/// Each call ends with the mesh's lists and its two counts.
-macro_rules! mesh_calls {
-    ($($name:ident($($given:ident: $type:ty),*);)*) => {
-        extern "C" {
-            $(fn $name(
-                $($given: $type,)*
-                xs: Out, n1: usize, ys: Out, n2: usize, zs: Out, n3: usize,
-                kinds: *mut u8, n4: usize, places: Numbers, n5: usize, regions: Numbers, n6: usize,
-                nodes: *mut usize, elements: *mut usize,
-            ) -> u32;)*
-        }
-    };
-}
-
-mesh_calls! {
-    openrdson_mesh_box(
-        bounds: Bbox, z_bottom: f64, z_top: f64, material: u32, region: u32, lateral_cell: f64, z_cell: f64
-    );
-    openrdson_mesh_prism(
-        point_x: List, nx: usize, point_y: List, ny: usize, z_bottom: f64, z_top: f64, start: u32, count: u32,
-        material: u32, region: u32
-    );
-    openrdson_mesh_box_region(
-        bounds: Bbox, z_bottom: f64, z_top: f64, material: u32, net: u32, polygon: u32,
-        point_x: List, nx: usize, point_y: List, ny: usize, number: u32, lateral_cell: f64, z_cell: f64
-    );
-    openrdson_mesh_prism_region(
-        z_bottom: f64, z_top: f64, start: u32, count: u32, material: u32, net: u32, polygon: u32,
-        point_x: List, nx: usize, point_y: List, ny: usize, number: u32, lateral_cell: f64, z_cell: f64
-    );
-}
 
 /// Entries past the end of each list, which the call is not lent.
 pub const PAST: usize = 2;

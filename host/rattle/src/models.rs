@@ -1,38 +1,7 @@
 //! The calls that mesh a model, and what they left in the lists that they were lent.
 use crate::meshes::{self, list, PAST};
+use crate::raw::*;
 use cases::models::{Call, Fault, Given, Job};
-
-type List = *const f64;
-type Numbers = *const u32;
-type Out = *mut f64;
-type OutNumbers = *mut u32;
-
-/// Each call has the region list, the points, what it is given beside them, the default cell sizes, and what it writes.
-macro_rules! model_calls {
-    ($($name:ident($($given:ident: $type:ty),*);)*) => {
-        extern "C" {
-            $(fn $name(
-                row_kinds: *const u8, n1: usize, min_x: List, n2: usize, min_y: List, n3: usize, max_x: List, n4: usize,
-                max_y: List, n5: usize, z_bottom: List, n6: usize, z_top: List, n7: usize,
-                starts: Numbers, n8: usize, row_counts: Numbers, n9: usize, row_materials: Numbers, n10: usize,
-                nets: Numbers, n11: usize, polygons: Numbers, n12: usize,
-                point_x: List, nx: usize, point_y: List, ny: usize,
-                $($given: $type,)*
-                lateral_cell: f64, z_cell: f64,
-                xs: Out, n13: usize, ys: Out, n14: usize, zs: Out, n15: usize,
-                kinds: *mut u8, n16: usize, places: OutNumbers, n17: usize, regions: OutNumbers, n18: usize,
-                diagnostics: OutNumbers, n19: usize, nodes: *mut usize, elements: *mut usize,
-            ) -> u32;)*
-        }
-    };
-}
-
-model_calls! {
-    openrdson_mesh_model();
-    openrdson_mesh_model_with_options(
-        materials: Numbers, m1: usize, laterals: List, m2: usize, verticals: List, m3: usize
-    );
-}
 
 /// The mesh with the status, and the diagnostics, after the call.
 pub struct Left {

@@ -1,18 +1,6 @@
 //! The calls on a ring that write lists, and what they left in those that they were lent.
+use crate::raw::*;
 use cases::polygons::{Call, Given, Job};
-
-type List = *const f64;
-type Out = *mut f64;
-
-extern "C" {
-    pub fn openrdson_dedup_ring(
-        xs: List, nx: usize, ys: List, ny: usize, out_x: Out, n1: usize, out_y: Out, n2: usize, points: *mut usize,
-    ) -> u32;
-    pub fn openrdson_triangulate_polygon(
-        xs: List, nx: usize, ys: List, ny: usize, out_x: Out, n1: usize, out_y: Out, n2: usize,
-        corners: *mut u32, n3: usize, vertices: *mut usize, triangles: *mut usize,
-    ) -> u32;
-}
 
 /// What is in every entry before the call, and past the end of each list.
 const NUMBER: u32 = 0xa5a5_a5a5;

@@ -1,6 +1,6 @@
 //! The calls that give a region, and those on a region list.
-use crate::exports::*;
 use crate::outputs::Outputs;
+use crate::raw::*;
 use cases::call::Call::*;
 use cases::case::Case;
 

@@ -1,26 +1,7 @@
 //! `assemble_stack`, and what it left in the lists that it was lent.
+use crate::raw::openrdson_assemble_stack;
 use cases::regions::Regions;
 use cases::stacks::{Given, Job};
-
-type Bytes = *const u8;
-type Numbers = *const u32;
-type List = *const f64;
-type Out = *mut f64;
-type OutNumbers = *mut u32;
-
-extern "C" {
-    pub fn openrdson_assemble_stack(
-        names: Bytes, n1: usize, conducting: Bytes, n2: usize, via: Bytes, n3: usize,
-        conductors: Bytes, n4: usize, diffusions: Bytes, n5: usize, vias: Bytes, n6: usize,
-        layers: *const i16, n7: usize, nets: Numbers, n8: usize, starts: Numbers, n9: usize, counts: Numbers, n10: usize,
-        xs: List, nx: usize, ys: List, ny: usize,
-        kinds: *mut u8, n11: usize, min_x: Out, n12: usize, min_y: Out, n13: usize, max_x: Out, n14: usize,
-        max_y: Out, n15: usize, z_bottom: Out, n16: usize, z_top: Out, n17: usize,
-        region_starts: OutNumbers, n18: usize, region_counts: OutNumbers, n19: usize, materials: OutNumbers, n20: usize,
-        region_nets: OutNumbers, n21: usize, polygons: OutNumbers, n22: usize,
-        outcomes: *mut u8, n23: usize, regions: *mut usize,
-    ) -> u32;
-}
 
 /// What is in every entry before the call, and past the end of each list.
 const BYTE: u8 = 0xa5;

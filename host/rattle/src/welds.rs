@@ -1,25 +1,7 @@
 //! The calls on a whole mesh, and what they left in the lists that they were lent.
 use crate::meshes::{self, PAST};
+use crate::raw::*;
 use cases::welds::{Call, Fault, Given, Job, Mesh};
-
-type List = *const f64;
-type Numbers = *const u32;
-type Out = *mut f64;
-type OutNumbers = *mut u32;
-
-extern "C" {
-    fn openrdson_weld_nodes(
-        xs: List, n1: usize, ys: List, n2: usize, zs: List, n3: usize,
-        kinds: *const u8, n4: usize, places: Numbers, n5: usize, regions: Numbers, n6: usize, tolerance: f64,
-        out_x: Out, m1: usize, out_y: Out, m2: usize, out_z: Out, m3: usize,
-        out_kinds: *mut u8, m4: usize, out_places: OutNumbers, m5: usize, out_regions: OutNumbers, m6: usize,
-        nodes: *mut usize, elements: *mut usize,
-    ) -> u32;
-    fn openrdson_mesh_volume(
-        xs: List, n1: usize, ys: List, n2: usize, zs: List, n3: usize,
-        kinds: *const u8, n4: usize, places: Numbers, n5: usize, regions: Numbers, n6: usize, volume: Out,
-    ) -> u32;
-}
 
 /// What the counts and the volume are before the call.
 const COUNTS: [usize; 2] = [0xa5a5_a5a5_a5a5_a5a5, 0x5a5a_5a5a_5a5a_5a5a];

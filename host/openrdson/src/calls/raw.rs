@@ -1,5 +1,5 @@
 //! The C functions of crates/c_api, all of them. Written by `host/header --bindings`, and held to it.
-use crate::core::geometry::{Bbox, Point};
+pub use crate::core::geometry::{Bbox, Point};
 
 extern "C" {
     pub fn openrdson_check_blocks(
