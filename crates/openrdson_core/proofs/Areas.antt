@@ -38,18 +38,22 @@ module _ (xs ys : List Float) where
     pub sum-closed : (first : Point) → i + 1 ≡ length xs → first ≡ pointAt xs ys 0 → sum ⊕ cross here first ≡ shoelace xs ys (length xs)
     sum-closed first l e = edge-more 0 first e (next-last (length xs) i l) ∙ ap (shoelace xs ys) l
 
-  -- six edges on
-  pub sum-six : (i : ℕ) {sum : Float} → i + 6 < length xs → sum ≡ shoelace xs ys i
-      → sum ⊕ cross (pointAt xs ys i) (pointAt xs ys (i + 1)) ⊕ cross (pointAt xs ys (i + 1)) (pointAt xs ys (i + 2)) ⊕ cross (pointAt xs ys (i + 2)) (pointAt xs ys (i + 3))
-      ⊕ cross (pointAt xs ys (i + 3)) (pointAt xs ys (i + 4)) ⊕ cross (pointAt xs ys (i + 4)) (pointAt xs ys (i + 5)) ⊕ cross (pointAt xs ys (i + 5)) (pointAt xs ys (i + 6))
-      ≡ shoelace xs ys (i + 6)
-  sum-six i l t =
+  -- eight edges on
+  pub sum-eight : (i : ℕ) {sum : Float} → i + 8 < length xs → sum ≡ shoelace xs ys i
+      → sum ⊕ cross (pointAt xs ys i) (pointAt xs ys (i + 1)) ⊕ cross (pointAt xs ys (i + 1)) (pointAt xs ys (i + 2))
+      ⊕ cross (pointAt xs ys (i + 2)) (pointAt xs ys (i + 3)) ⊕ cross (pointAt xs ys (i + 3)) (pointAt xs ys (i + 4))
+      ⊕ cross (pointAt xs ys (i + 4)) (pointAt xs ys (i + 5)) ⊕ cross (pointAt xs ys (i + 5)) (pointAt xs ys (i + 6))
+      ⊕ cross (pointAt xs ys (i + 6)) (pointAt xs ys (i + 7)) ⊕ cross (pointAt xs ys (i + 7)) (pointAt xs ys (i + 8))
+      ≡ shoelace xs ys (i + 8)
+  sum-eight i l t =
       let s1 = sum-more i t _ refl (i + 1) _ refl (omega arith) refl in
       let s2 = sum-more (i + 1) s1 _ refl (i + 2) _ (omega arith) (omega arith) refl in
       let s3 = sum-more (i + 2) s2 _ refl (i + 3) _ (omega arith) (omega arith) refl in
       let s4 = sum-more (i + 3) s3 _ refl (i + 4) _ (omega arith) (omega arith) refl in
       let s5 = sum-more (i + 4) s4 _ refl (i + 5) _ (omega arith) (omega arith) refl in
-      sum-more (i + 5) s5 _ refl (i + 6) _ (omega arith) l refl
+      let s6 = sum-more (i + 5) s5 _ refl (i + 6) _ (omega arith) (omega arith) refl in
+      let s7 = sum-more (i + 6) s6 _ refl (i + 7) _ (omega arith) (omega arith) refl in
+      sum-more (i + 7) s7 _ refl (i + 8) _ (omega arith) l refl
 
 -- the loop over the edges: before the edge from point i, `sum` and `fine` are of the edges and points before it
 pub record Summing (xs ys : List Float) (i : ℕ) (sum : Float) (fine : Bool) : Type 0 where

@@ -4,16 +4,16 @@ ghost use Prim.Native.Nat.{_+_, _≤_, _<_};
 ghost use lib.Ieee.{le};
 ghost use lib.ListN.{length};
 ghost use Rattle.lists.specs.Answer.{unless, given};
+ghost use Rattle.lists.specs.Lists.{allBelow};
 ghost use mathlib.Core.Bool.{true};
-ghost use Rattle.openrdson_core.specs.Points.{pointAt, pointsIn, ofRing};
+ghost use Rattle.openrdson_core.specs.Points.{pointAt, pointIn, pointsIn, ofRing};
 ghost use Rattle.openrdson_core.specs.Area.{cross, shoelace, signedArea, area, isCcw};
-ghost use Rattle.openrdson_core.specs.Sums.{Small};
+ghost use Rattle.openrdson_core.specs.Sums.{Small, Summed};
 ghost use Rattle.openrdson_core.specs.Answers.{measuredAnswer, judgedAnswer};
 use crate::points::Check;
 use crate::points::Judged;
 use crate::points::Measured;
 use crate::points::Point;
-use crate::points::points_in_range;
 use crate::points::ring_size;
 use crate::refusals::Refusal;
 
@@ -65,11 +65,11 @@ fn point_at(xs: &[f64], ys: &[f64], i: usize) -> Point
     Point::new(xs[i], ys[i])
 }
 
-// The sum with the six edges from place i on. All x are read before all y: the compiler then works on two neighbours of one list at once,
+// The sum with the eight edges from place i on. All x are read before all y: the compiler then works on two neighbours of one list at once,
 // here and in `patterns_to`.
-fn add_six(xs: &[f64], ys: &[f64], i: usize, sum: f64) -> f64
-    requires { ⌜ (length (now xs) ≡ length (now ys)) × (length (now xs) ≤ 512) × (i + 6 < length (now xs)) × (sum ≡ shoelace (now xs) (now ys) i) ⌝ }
-    ensures { λ r. ⌜ r ≡ shoelace (now (xs .entry)) (now (ys .entry)) (i + 6) ⌝ }
+fn add_eight(xs: &[f64], ys: &[f64], i: usize, sum: f64) -> f64
+    requires { ⌜ (length (now xs) ≡ length (now ys)) × (length (now xs) ≤ 512) × (i + 8 < length (now xs)) × (sum ≡ shoelace (now xs) (now ys) i) ⌝ }
+    ensures { λ r. ⌜ r ≡ shoelace (now (xs .entry)) (now (ys .entry)) (i + 8) ⌝ }
 {
     let x0 = xs[i];
     let x1 = xs[i + 1];
@@ -78,6 +78,8 @@ fn add_six(xs: &[f64], ys: &[f64], i: usize, sum: f64) -> f64
     let x4 = xs[i + 4];
     let x5 = xs[i + 5];
     let x6 = xs[i + 6];
+    let x7 = xs[i + 7];
+    let x8 = xs[i + 8];
     let y0 = ys[i];
     let y1 = ys[i + 1];
     let y2 = ys[i + 2];
@@ -85,8 +87,12 @@ fn add_six(xs: &[f64], ys: &[f64], i: usize, sum: f64) -> f64
     let y4 = ys[i + 4];
     let y5 = ys[i + 5];
     let y6 = ys[i + 6];
-    let half = sum + (x0 * y1 - x1 * y0) + (x1 * y2 - x2 * y1) + (x2 * y3 - x3 * y2);
-    half + (x3 * y4 - x4 * y3) + (x4 * y5 - x5 * y4) + (x5 * y6 - x6 * y5)
+    let y7 = ys[i + 7];
+    let y8 = ys[i + 8];
+    let first = sum + (x0 * y1 - x1 * y0) + (x1 * y2 - x2 * y1);
+    let second = first + (x2 * y3 - x3 * y2) + (x3 * y4 - x4 * y3);
+    let third = second + (x4 * y5 - x5 * y4) + (x5 * y6 - x6 * y5);
+    third + (x6 * y7 - x7 * y6) + (x7 * y8 - x8 * y7)
 }
 
 // The sum with the edges from place `from` to place `to`.
@@ -122,56 +128,84 @@ fn patterns_to(xs: &[f64], ys: &[f64], from: usize, to: usize, start: u64) -> u6
     bits
 }
 
-// The sum over the edges from the first `count` points. Where bit 62 of `bits` is clear, those points are in range.
+// Whether the points before place `to` are in range, where `start` tells that of the points before place `from`.
+fn range_to(xs: &[f64], ys: &[f64], from: usize, to: usize, start: bool) -> bool
+    requires { ⌜ (length (now xs) ≡ length (now ys)) × (from ≤ to) × (to ≤ length (now xs)) × (start ≡ allBelow from (λ k. pointIn (pointAt (now xs) (now ys) k))) ⌝ }
+    ensures { λ r. ⌜ r ≡ allBelow to (λ k. pointIn (pointAt (now (xs .entry)) (now (ys .entry)) k)) ⌝ }
+{
+    let mut fine = start;
+    let mut i = from;
+    while i < to {
+        let here = point_at(xs, ys, i);
+        fine = fine & here.is_in_range();
+        i += 1;
+    }
+    fine
+}
+
+// The sum over the edges from the first `count` points, and whether these are in range.
 struct Partial {
     sum: f64,
-    bits: u64,
+    fine: bool,
     count: usize,
 }
 
-// Six edges a turn, while a seventh point is left. Where the sum is not a number, no pattern may be asked for: bit 62 is set, which tells
-// nothing of the points.
-fn sum_by_six(xs: &[f64], ys: &[f64]) -> Partial
+// Eight edges a turn, while a ninth point is left, and no pattern so far has bit 62: every coordinate is then below 2 in size. A sum that is
+// not a number ends it too, since a not-a-number's pattern may not be asked for.
+fn sum_of_small(xs: &[f64], ys: &[f64]) -> Partial
     requires { ⌜ (length (now xs) ≡ length (now ys)) × (0 < length (now xs)) × (length (now xs) ≤ 512) ⌝ }
-    ensures { λ r. ⌜ (r .count < length (now (xs .entry))) × (r .sum ≡ shoelace (now (xs .entry)) (now (ys .entry)) (r .count)) × Small (now (xs .entry)) (now (ys .entry)) (r .count) (r .bits) ⌝ }
+    ensures { λ r. ⌜ (r .count < length (now (xs .entry))) × Summed (now (xs .entry)) (now (ys .entry)) (r .count) (r .sum) (r .fine) ⌝ }
 {
     let n = xs.len();
     let mut sum = 0.0;
     let mut bits = 0;
     let mut i = 0;
-    while i + 6 < n {
-        let next = i + 6;
-        sum = add_six(xs, ys, i, sum);
-        if sum != sum {
+    while i + 8 < n {
+        let next = add_eight(xs, ys, i, sum);
+        if next != next {
             return Partial {
                 sum,
-                bits: 0x4000_0000_0000_0000,
-                count: next,
+                fine: true,
+                count: i,
             };
         }
-        bits = patterns_to(xs, ys, i, next, bits);
-        i = next;
+        bits = patterns_to(xs, ys, i, i + 8, bits);
+        if bits / 0x4000_0000_0000_0000 % 2 != 0 {
+            return Partial {
+                sum,
+                fine: true,
+                count: i,
+            };
+        }
+        sum = next;
+        i += 8;
     }
     Partial {
         sum,
-        bits,
+        fine: true,
         count: i,
     }
 }
 
-// Whether every point is in range, from the whole sum and its first part: where no pattern has bit 62, every coordinate is below 2 in size.
-// Else the points are looked at.
-fn all_in_range(xs: &[f64], ys: &[f64], sum: f64, first: Partial) -> bool
-    requires { ⌜ (length (now xs) ≡ length (now ys)) × (sum ≡ shoelace (now xs) (now ys) (length (now xs))) × (first .count < length (now xs)) × Small (now xs) (now ys) (first .count) (first .bits) ⌝ }
-    ensures { λ r. ⌜ r ≡ pointsIn (now (xs .entry)) (now (ys .entry)) ⌝ }
+// On by eight edges a turn, each point compared with the limit.
+fn sum_of_large(xs: &[f64], ys: &[f64], from: Partial) -> Partial
+    requires { ⌜ (length (now xs) ≡ length (now ys)) × (length (now xs) ≤ 512) × (from .count < length (now xs)) × Summed (now xs) (now ys) (from .count) (from .sum) (from .fine) ⌝ }
+    ensures { λ r. ⌜ (r .count < length (now (xs .entry))) × Summed (now (xs .entry)) (now (ys .entry)) (r .count) (r .sum) (r .fine) ⌝ }
 {
-    if sum == sum {
-        let bits = patterns_to(xs, ys, first.count, xs.len(), first.bits);
-        if bits / 0x4000_0000_0000_0000 % 2 == 0 {
-            return true;
-        }
+    let n = xs.len();
+    let mut sum = from.sum;
+    let mut fine = from.fine;
+    let mut i = from.count;
+    while i + 8 < n {
+        sum = add_eight(xs, ys, i, sum);
+        fine = range_to(xs, ys, i, i + 8, fine);
+        i += 8;
     }
-    points_in_range(xs, ys)
+    Partial {
+        sum,
+        fine,
+        count: i,
+    }
 }
 
 // The signed area, or 1: the edges from each point to the next, then the one that closes the ring.
@@ -183,11 +217,12 @@ fn signed_area_of_points(xs: &[f64], ys: &[f64]) -> Measured
     if n == 0 {
         return Measured::Value(0.0);
     }
-    let first = sum_by_six(xs, ys);
+    let small = sum_of_small(xs, ys);
+    let first = sum_of_large(xs, ys, small);
     let most = add_to(xs, ys, first.count, n - 1, first.sum);
     let last = point_at(xs, ys, n - 1);
     let sum = most + cross_of(last, Point::new(xs[0], ys[0]));
-    if !all_in_range(xs, ys, sum, first) {
+    if !range_to(xs, ys, first.count, n, first.fine) {
         return Measured::Refused(Refusal::NumberOutOfRange);
     }
     if n < 3 {

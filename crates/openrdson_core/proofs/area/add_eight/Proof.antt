@@ -1,10 +1,10 @@
--- `add_six` meets its contract: `sum-six`. Assumes nothing.
-use Rattle.openrdson_core.proofs.Areas.{sum-six}
+-- `add_eight` meets its contract: `sum-eight`. Assumes nothing.
+use Rattle.openrdson_core.proofs.Areas.{sum-eight}
 use borrow.Author.Needs.{needs}
-use Rattle.openrdson_core.proofs.area.add_six.Statement.{statement}
-use Rattle.openrdson_core.proofs.area.add_six.Tie as tie
-use Rattle.openrdson_core.proofs.area.add_six.Reads as reads
-use Rattle.openrdson_core.proofs.area.add_six.Lts as lts
+use Rattle.openrdson_core.proofs.area.add_eight.Statement.{statement}
+use Rattle.openrdson_core.proofs.area.add_eight.Tie as tie
+use Rattle.openrdson_core.proofs.area.add_eight.Reads as reads
+use Rattle.openrdson_core.proofs.area.add_eight.Lts as lts
 
 mul-x0 : tie.Need-mul-x0
 mul-x0 c = search needs
@@ -66,6 +66,24 @@ mul-x6 c = search needs
 shared-slice-read-x6 : tie.Need-shared-slice-read-x6
 shared-slice-read-x6 c = search needs
 
+add-x7 : tie.Need-add-x7
+add-x7 c = search needs
+
+mul-x7 : tie.Need-mul-x7
+mul-x7 c = search needs
+
+shared-slice-read-x7 : tie.Need-shared-slice-read-x7
+shared-slice-read-x7 c = search needs
+
+add-x8 : tie.Need-add-x8
+add-x8 c = search needs
+
+mul-x8 : tie.Need-mul-x8
+mul-x8 c = search needs
+
+shared-slice-read-x8 : tie.Need-shared-slice-read-x8
+shared-slice-read-x8 c = search needs
+
 mul-y0 : tie.Need-mul-y0
 mul-y0 c = search needs
 
@@ -126,11 +144,29 @@ mul-y6 c = search needs
 shared-slice-read-y6 : tie.Need-shared-slice-read-y6
 shared-slice-read-y6 c = search needs
 
-returns : tie.Need-returns
-returns c = sum-six (c .before .before .before .before .before .before .before .before .before .before .before .before .before .before .args .xs .now) (c .before .before .before .before .before .before .before .before .before .before .before .before .before .before .args .ys .now) (c .before .before .before .before .before .before .before .before .before .before .before .before .before .before .args .i) (c .before .before .before .before .before .before .before .before .before .before .before .before .before .before .pre .2) (c .before .before .before .before .before .before .before .before .before .before .before .before .before .before .pre .3)
+add-y7 : tie.Need-add-y7
+add-y7 c = search needs
 
-pub add-six-spec : {M : Type 1} → statement M
-add-six-spec =
+mul-y7 : tie.Need-mul-y7
+mul-y7 c = search needs
+
+shared-slice-read-y7 : tie.Need-shared-slice-read-y7
+shared-slice-read-y7 c = search needs
+
+add-y8 : tie.Need-add-y8
+add-y8 c = search needs
+
+mul-y8 : tie.Need-mul-y8
+mul-y8 c = search needs
+
+shared-slice-read-y8 : tie.Need-shared-slice-read-y8
+shared-slice-read-y8 c = search needs
+
+returns : tie.Need-returns
+returns c = sum-eight (c .before .before .before .before .before .before .before .before .before .before .before .before .before .before .before .before .before .before .args .xs .now) (c .before .before .before .before .before .before .before .before .before .before .before .before .before .before .before .before .before .before .args .ys .now) (c .before .before .before .before .before .before .before .before .before .before .before .before .before .before .before .before .before .before .args .i) (c .before .before .before .before .before .before .before .before .before .before .before .before .before .before .before .before .before .before .pre .2) (c .before .before .before .before .before .before .before .before .before .before .before .before .before .before .before .before .before .before .pre .3)
+
+pub add-eight-spec : {M : Type 1} → statement M
+add-eight-spec =
     tie.close
     (tie.spec
     mul-x0
@@ -153,6 +189,12 @@ add-six-spec =
     add-x6
     mul-x6
     shared-slice-read-x6
+    add-x7
+    mul-x7
+    shared-slice-read-x7
+    add-x8
+    mul-x8
+    shared-slice-read-x8
     mul-y0
     shared-slice-read-y0
     add-y1
@@ -173,4 +215,10 @@ add-six-spec =
     add-y6
     mul-y6
     shared-slice-read-y6
+    add-y7
+    mul-y7
+    shared-slice-read-y7
+    add-y8
+    mul-y8
+    shared-slice-read-y8
     returns)
