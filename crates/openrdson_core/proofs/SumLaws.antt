@@ -42,7 +42,7 @@ module _ (xs ys : List Float) where
   before i zero h = subst Number (add-zero i) h
   before i (suc d) h = let e : i + suc d ≡ i + d + 1 = omega arith in before i d (step-whole (i + d) (subst Number e h) .0)
 
-  pub number-before : (i n : ℕ) → i ≤ n → Number n → Number i
+  number-before : (i n : ℕ) → i ≤ n → Number n → Number i
   number-before i n l h = let e : n ≡ i + (n - i) = omega arith in before i (n - i) (subst Number e h)
 
   pub whole-before : (i n : ℕ) → i < n → Number n → Whole (pointAt xs ys i)

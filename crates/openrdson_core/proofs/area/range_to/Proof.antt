@@ -7,7 +7,6 @@ use mathlib.Core.Bool.{Bool, _&&_}
 use Rattle.lists.specs.Lists.{allBelow}
 use Rattle.lists.proofs.Scans.{all-noted}
 use Rattle.openrdson_core.specs.Points.{pointAt, pointIn}
-use Rattle.openrdson_core.specs.declared.points.Point.{Point}
 use Rattle.openrdson_core.proofs.area.range_to.Statement.{statement}
 use Rattle.openrdson_core.proofs.area.range_to.Tie as tie
 use Rattle.openrdson_core.proofs.area.range_to.Reads as reads

@@ -6,7 +6,7 @@ use lib.ListN.{length}
 use lib.Ieee.{Float, le}
 use Rattle.binary64.proofs.NotNumbers.{same-number}
 use Rattle.openrdson_core.specs.Area.{shoelace}
-use Rattle.openrdson_core.specs.Sums.{Small, Summed}
+use Rattle.openrdson_core.specs.Sums.{Small}
 use Rattle.openrdson_core.proofs.Areas.{sum-start}
 use Rattle.openrdson_core.proofs.SumLaws.{small-start}
 use Rattle.openrdson_core.proofs.area.sum_of_small.Statement.{statement}
