@@ -17,9 +17,10 @@ pub fn of(points: Vec<(f64, f64)>) -> Ring {
     ring(points.into_iter().map(|(x, y)| Point::new(x, y)).collect())
 }
 
-pub fn circle(n: usize) -> Ring {
+/// A radius in metres.
+pub fn circle(n: usize, radius: f64) -> Ring {
     let angle = |i| i as f64 * std::f64::consts::TAU / n as f64;
-    ring((0..n).map(|i| Point::new(100.0 * angle(i).cos(), 100.0 * angle(i).sin())).collect())
+    ring((0..n).map(|i| Point::new(radius * angle(i).cos(), radius * angle(i).sin())).collect())
 }
 
 pub fn on_four_corners(n: usize) -> Ring {

@@ -14,8 +14,8 @@ pub fn rows() -> Vec<Row> {
         Row::new("triangulate_polygon", &size, effort(rounds, 1), move || sides(Call::TriangulatePolygon, ring()))
     };
     vec![
-        Row::new("dedup_ring", "circle of 512 points", SHORT, || sides(Call::DedupRing, circle(512))).with_stack(),
-        triangulated("circle", 400, || circle(512)).with_stack(),
+        Row::new("dedup_ring", "circle of 512 points", SHORT, || sides(Call::DedupRing, circle(512, 100.0))).with_stack(),
+        triangulated("circle", 400, || circle(512, 100.0)).with_stack(),
         triangulated("star", 400, || of(shapes::star(512))),
         triangulated("comb", 400, || of(shapes::comb(512))),
         triangulated("spiral", 40, || of(shapes::spiral(512, 16))),

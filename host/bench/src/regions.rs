@@ -13,8 +13,8 @@ const REGIONS: usize = 4096;
 pub fn rows() -> Vec<Row> {
     let extruded = |size, ring: fn() -> Ring| Row::new("extrude_polygon", size, SHORT, move || extruded(ring()));
     vec![
-        extruded("circle of 8 points", || circle(8)),
-        extruded("circle of 512 points", || circle(512)),
+        extruded("circle of 8 points", || circle(8, 100.0)),
+        extruded("circle of 512 points", || circle(512, 100.0)),
         extruded("8 points on four corners", || on_four_corners(8)),
         extruded("512 points on four corners", || on_four_corners(512)),
         Row::new("total_volume", "2,048 boxes and 2,048 prisms of 8 points", effort(1000, 5), || total(model())),
@@ -53,7 +53,7 @@ struct Model {
 /// A box and a prism of eight points of its own in turns.
 fn model() -> Model {
     let (mut regions, mut rows, mut xs, mut ys) = (vec![], vec![], vec![], vec![]);
-    let ring = circle(8);
+    let ring = circle(8, 100.0);
     for i in 0..REGIONS {
         let at = i as f64 / 8.0;
         let [min_x, min_y, max_x, max_y, z_bottom, z_top] = [at, at + 1.0, at + 2.5, at + 2.0, 0.25, 0.75];

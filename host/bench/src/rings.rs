@@ -6,12 +6,14 @@ use rattle::raw::*;
 use std::hint::black_box;
 
 pub fn rows() -> Vec<Row> {
-    let round = "circle of 512 points";
+    let round = "circle of 512 points, radius 10 µm";
     vec![
-        Row::new("polygon_signed_area", round, SHORT, || area(circle(512))),
-        Row::new("is_axis_aligned_rectangle", round, SHORT, || rectangle(circle(512))),
+        Row::new("polygon_signed_area", round, SHORT, || area(circle(512, 1e-5))),
+        Row::new("polygon_signed_area", "circle of 512 points, radius 100 m", SHORT, || area(circle(512, 100.0))),
+        Row::new("is_axis_aligned_rectangle", round, SHORT, || rectangle(circle(512, 1e-5))),
+        Row::new("is_axis_aligned_rectangle", "circle of 512 points, radius 100 m", SHORT, || rectangle(circle(512, 100.0))),
         Row::new("is_axis_aligned_rectangle", "512 points on four corners", SHORT, || rectangle(on_four_corners(512))),
-        Row::new("Bbox::from_points", round, SHORT, || bounding_box(circle(512))),
+        Row::new("Bbox::from_points", round, SHORT, || bounding_box(circle(512, 1e-5))),
     ]
 }
 

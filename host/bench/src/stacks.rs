@@ -27,7 +27,7 @@ struct Input {
 /// So many rows in each block.
 fn input(n: usize) -> Input {
     let mut layers = layers(n);
-    let [round, square] = [circle(8), on_four_corners(4)];
+    let [round, square] = [circle(8, 100.0), on_four_corners(4)];
     let rings: Vec<_> = (0..POLYGONS).map(|i| if i % 2 == 0 { &square } else { &round }).collect();
     let numbers: Vec<i16> = (0..POLYGONS).map(|i| layers.numbers[i / 2 % n]).collect();
     let polygon = |i: usize| LayoutPolygon {
