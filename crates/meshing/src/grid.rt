@@ -222,27 +222,3 @@ pub fn write_eight(
     places[at + 6] = g;
     places[at + 7] = h;
 }
-
-// Writes a value n times from place `at` on. For callers that have found room.
-pub fn fill_bytes(out: &mut [u8], at: usize, n: usize, value: u8)
-    requires { ⌜ at + n ≤ length (now out) ⌝ }
-    ensures { λ _. ⌜ now (out .exit) ≡ put (now (out .entry)) at (elems n (λ _. value)) ⌝ }
-{
-    let mut i = 0;
-    while i < n {
-        out[at + i] = value;
-        i += 1;
-    }
-}
-
-// The same for a list of u32.
-pub fn fill_words(out: &mut [u32], at: usize, n: usize, value: u32)
-    requires { ⌜ at + n ≤ length (now out) ⌝ }
-    ensures { λ _. ⌜ now (out .exit) ≡ put (now (out .entry)) at (elems n (λ _. value)) ⌝ }
-{
-    let mut i = 0;
-    while i < n {
-        out[at + i] = value;
-        i += 1;
-    }
-}

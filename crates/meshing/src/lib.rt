@@ -16,6 +16,7 @@ mod triangulate;
 mod volume;
 mod weld;
 mod whole;
+mod writes;
 
 pub use boxes::Meshed;
 pub use boxes::mesh_box;

@@ -15,8 +15,6 @@ ghost use Rattle.meshing.specs.Rectilinear.{isRectilinear};
 ghost use Rattle.meshing.specs.Prisms as spec;
 use crate::boxes::Meshed;
 use crate::ears::Cut;
-use crate::grid::fill_bytes;
-use crate::grid::fill_words;
 use crate::grid::write_eight;
 use crate::rectilinear::ring_is_rectilinear;
 use crate::ring::gather_into;
@@ -24,6 +22,10 @@ use crate::ring::is_clean;
 use crate::ring::kept_places;
 use crate::scanline::mesh_scanline;
 use crate::triangulate::clip_ring;
+use crate::writes::copy_reals;
+use crate::writes::fill_bytes;
+use crate::writes::fill_reals;
+use crate::writes::fill_words;
 use openrdson_core::Check;
 use openrdson_core::Counts;
 use openrdson_core::Material;
@@ -33,30 +35,6 @@ use openrdson_core::counts_within;
 use openrdson_core::has_room;
 use openrdson_core::lists_parallel;
 use openrdson_core::ring_check;
-
-// Writes a list of numbers from place `at` on. For callers that have found room.
-fn copy_reals(l: &[f64], out: &mut [f64], at: usize)
-    requires { ⌜ at + length (now l) ≤ length (now out) ⌝ }
-    ensures { λ _. ⌜ now (out .exit) ≡ put (now (out .entry)) at (now (l .entry)) ⌝ }
-{
-    let mut i = 0;
-    while i < l.len() {
-        out[at + i] = l[i];
-        i += 1;
-    }
-}
-
-// Writes a number n times from place `at` on. For callers that have found room.
-fn fill_reals(out: &mut [f64], at: usize, n: usize, value: f64)
-    requires { ⌜ at + n ≤ length (now out) ⌝ }
-    ensures { λ _. ⌜ now (out .exit) ≡ put (now (out .entry)) at (elems n (λ _. value)) ⌝ }
-{
-    let mut i = 0;
-    while i < n {
-        out[at + i] = value;
-        i += 1;
-    }
-}
 
 // Writes the node places of the prisms on triangles, from place `at` on, where the n bottom nodes start at `base`.
 fn write_prisms(places: &mut [u32], at: usize, base: usize, n: usize, corners: &[u32])

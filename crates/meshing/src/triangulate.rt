@@ -15,6 +15,7 @@ use crate::ears::Cut;
 use crate::ears::clip_walk;
 use crate::ring::gather_into;
 use crate::ring::kept_places;
+use crate::writes::copy_words;
 use openrdson_core::Check;
 use openrdson_core::Measured;
 use openrdson_core::Refusal;
@@ -50,18 +51,6 @@ fn fill_walk(walk: &mut [usize], n: usize, forward: bool)
     }
 }
 
-// Copies all corners over the start of out.
-fn copy_corners(corners: &[u32], out: &mut [u32])
-    requires { ⌜ length (now corners) ≤ length (now out) ⌝ }
-    ensures { λ _. ⌜ now (out .exit) ≡ put (now (out .entry)) 0 (now (corners .entry)) ⌝ }
-{
-    let mut i = 0;
-    while i < corners.len() {
-        out[i] = corners[i];
-        i += 1;
-    }
-}
-
 // Writes the points at the places and the corners, where there is room; 12.
 fn write_cutting(
     xs: &[f64],
@@ -84,7 +73,7 @@ fn write_cutting(
     }
     gather_into(xs, places, out_x);
     gather_into(ys, places, out_y);
-    copy_corners(corners, out_corners);
+    copy_words(corners, out_corners);
     Triangulated::Counts(places.len(), triangles)
 }
 

@@ -9,6 +9,8 @@ ghost use Rattle.openrdson_core.specs.Mesh.{theMesh};
 ghost use Rattle.meshing.specs.Welds as spec;
 use crate::boxes::Meshed;
 use crate::whole::mesh_check;
+use crate::writes::copy_bytes;
+use crate::writes::copy_words;
 use openrdson_core::Check;
 use openrdson_core::Counts;
 use openrdson_core::Refusal;
@@ -159,29 +161,6 @@ fn write_places(
     }
 }
 
-// Copies a list over the start of another. For callers that have found room for it.
-fn copy_kinds(kinds: &[u8], out: &mut [u8])
-    requires { ⌜ length (now kinds) ≤ length (now out) ⌝ }
-    ensures { λ _. ⌜ now (out .exit) ≡ put (now (out .entry)) 0 (now (kinds .entry)) ⌝ }
-{
-    let mut e = 0;
-    while e < kinds.len() {
-        out[e] = kinds[e];
-        e += 1;
-    }
-}
-
-fn copy_regions(regions: &[u32], out: &mut [u32])
-    requires { ⌜ length (now regions) ≤ length (now out) ⌝ }
-    ensures { λ _. ⌜ now (out .exit) ≡ put (now (out .entry)) 0 (now (regions .entry)) ⌝ }
-{
-    let mut e = 0;
-    while e < regions.len() {
-        out[e] = regions[e];
-        e += 1;
-    }
-}
-
 // Welds a mesh that has been checked, into parallel lists; 12.
 fn weld_checked(
     xs: &[f64],
@@ -219,8 +198,8 @@ fn weld_checked(
         places,
         out_places,
     );
-    copy_kinds(kinds, out_kinds);
-    copy_regions(regions, out_regions);
+    copy_bytes(kinds, out_kinds);
+    copy_words(regions, out_regions);
     Meshed::Done(Counts {
         nodes,
         elements: kinds.len(),

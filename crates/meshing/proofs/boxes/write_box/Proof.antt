@@ -7,8 +7,8 @@ use Rattle.meshing.proofs.boxes.write_box.Statement.{statement}
 use Rattle.meshing.proofs.boxes.write_box.Tie as tie
 use Rattle.meshing.proofs.boxes.write_box.Reads as reads
 use Rattle.meshing.proofs.boxes.write_box.Lts as lts
-use Rattle.meshing.proofs.grid.fill_bytes.Reads as fill-bytes-reads
-use Rattle.meshing.proofs.grid.fill_words.Reads as fill-words-reads
+use Rattle.meshing.proofs.writes.fill_bytes.Reads as fill-bytes-reads
+use Rattle.meshing.proofs.writes.fill_words.Reads as fill-words-reads
 use Rattle.meshing.proofs.grid.write_hexes.Reads as write-hexes-reads
 use Rattle.meshing.proofs.grid.write_nodes.Reads as write-nodes-reads
 

@@ -13,10 +13,10 @@ use Rattle.meshing.proofs.prism.mesh_tris.Statement.{statement}
 use Rattle.meshing.proofs.prism.mesh_tris.Tie as tie
 use Rattle.meshing.proofs.prism.mesh_tris.Reads as reads
 use Rattle.meshing.proofs.prism.mesh_tris.Lts as lts
-use Rattle.meshing.proofs.grid.fill_bytes.Reads as fill-bytes-reads
-use Rattle.meshing.proofs.grid.fill_words.Reads as fill-words-reads
-use Rattle.meshing.proofs.prism.copy_reals.Reads as copy-reals-reads
-use Rattle.meshing.proofs.prism.fill_reals.Reads as fill-reals-reads
+use Rattle.meshing.proofs.writes.fill_bytes.Reads as fill-bytes-reads
+use Rattle.meshing.proofs.writes.fill_words.Reads as fill-words-reads
+use Rattle.meshing.proofs.writes.copy_reals.Reads as copy-reals-reads
+use Rattle.meshing.proofs.writes.fill_reals.Reads as fill-reals-reads
 use Rattle.meshing.proofs.prism.write_prisms.Reads as write-prisms-reads
 use Rattle.openrdson_core.proofs.has_room.Reads as has-room-reads
 

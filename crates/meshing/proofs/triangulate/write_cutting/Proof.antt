@@ -13,7 +13,7 @@ use Rattle.meshing.proofs.triangulate.write_cutting.Tie as tie
 use Rattle.meshing.proofs.triangulate.write_cutting.Reads as reads
 use Rattle.meshing.proofs.triangulate.write_cutting.Lts as lts
 use Rattle.meshing.proofs.ring.gather_into.Reads as gather-into-reads
-use Rattle.meshing.proofs.triangulate.copy_corners.Reads as copy-corners-reads
+use Rattle.meshing.proofs.writes.copy_words.Reads as copy-words-reads
 
 returns : tie.Need-returns
 returns c = refused-leaves (fitted (length (c .before .before .before .before .before .before .before .before .args .out-x .now)) (length (c .before .before .before .before .before .before .before .before .args .out-corners .now)) (c .before .before .before .before .before .before .before .before .args .places .now) (triples (c .before .before .before .before .before .before .before .before .args .corners .now))) (no-ring-room (length (c .before .before .before .before .before .before .before .before .args .out-x .now)) (length (c .before .before .before .before .before .before .before .before .args .out-corners .now)) (c .before .before .before .before .before .before .before .before .args .places .now) (triples (c .before .before .before .before .before .before .before .before .args .corners .now)) (omega arith)) refl
@@ -27,8 +27,8 @@ gather-into-requires c κs = search needs
 gather-into-requires-2 : tie.Need-gather-into-requires-2
 gather-into-requires-2 c κs = (rw (← c .before .before .before .before .before .before .before .before .before .before .before .before .before .before .pre .1) (c .before .before .before .before .before .before .before .before .before .before .before .before .before .before .pre .0), omega (arith, c .before .before .before .before .before .before .before .before .before .before .before .before .before .before .pre .2))
 
-copy-corners-requires : tie.Need-copy-corners-requires
-copy-corners-requires c κs = search needs
+copy-words-requires : tie.Need-copy-words-requires
+copy-words-requires c κs = search needs
 
 same-length : tie.Need-same-length
 same-length c = search needs
@@ -40,7 +40,7 @@ same-length-3 : tie.Need-same-length-3
 same-length-3 c = search needs
 
 returns-3 : tie.Need-returns-3
-returns-3 c = let e : length (corners (triples (c .before .before .before .before .before .before .before .before .before .before .before .before .before .before .before .before .before .before .before .before .before .args .corners .now))) ≡ length (c .before .before .before .before .before .before .before .before .before .before .before .before .before .before .before .before .before .before .before .before .before .args .corners .now) = ap length (c .before .before .before .before .before .before .before .before .before .before .before .before .before .before .before .before .before .before .before .before .before .pre .3) in given-leaves (fitted (length (c .before .before .before .before .before .before .before .before .before .before .before .before .before .before .before .before .before .before .before .before .before .args .out-x .now)) (length (c .before .before .before .before .before .before .before .before .before .before .before .before .before .before .before .before .before .before .before .before .before .args .out-corners .now)) (c .before .before .before .before .before .before .before .before .before .before .before .before .before .before .before .before .before .before .before .before .before .args .places .now) (triples (c .before .before .before .before .before .before .before .before .before .before .before .before .before .before .before .before .before .before .before .before .before .args .corners .now))) (c .before .before .before .before .before .before .before .before .before .before .before .before .before .before .before .before .before .before .before .before .before .args .places .now) (triples (c .before .before .before .before .before .before .before .before .before .before .before .before .before .before .before .before .before .before .before .before .before .args .corners .now)) (has-room (length (c .before .before .before .before .before .before .before .before .before .before .before .before .before .before .before .before .before .before .before .before .before .args .out-x .now)) (length (c .before .before .before .before .before .before .before .before .before .before .before .before .before .before .before .before .before .before .before .before .before .args .out-corners .now)) (c .before .before .before .before .before .before .before .before .before .before .before .before .before .before .before .before .before .before .before .before .before .args .places .now) (triples (c .before .before .before .before .before .before .before .before .before .before .before .before .before .before .before .before .before .before .before .before .before .args .corners .now)) (omega arith) (omega (arith, e))) refl (omega (arith, e, corners-length (triples (c .before .before .before .before .before .before .before .before .before .before .before .before .before .before .before .before .before .before .before .before .before .args .corners .now)), c .before .before .before .before .before .before .before .before .before .before .before .before .before .before .before .before .before .before .before .before .before .pre .4)) (c .before .before .before .before .before .before .before .before .before .before .gather-into .ensures) (c .before .before .before .before .before .before .gather-into2 .ensures) (c .before .before .copy-corners .ensures ∙ ap (put (c .before .before .before .before .before .before .before .before .before .before .before .before .before .before .before .before .before .before .before .before .before .args .out-corners .now) 0) (sym (c .before .before .before .before .before .before .before .before .before .before .before .before .before .before .before .before .before .before .before .before .before .pre .3)))
+returns-3 c = let e : length (corners (triples (c .before .before .before .before .before .before .before .before .before .before .before .before .before .before .before .before .before .before .before .before .before .args .corners .now))) ≡ length (c .before .before .before .before .before .before .before .before .before .before .before .before .before .before .before .before .before .before .before .before .before .args .corners .now) = ap length (c .before .before .before .before .before .before .before .before .before .before .before .before .before .before .before .before .before .before .before .before .before .pre .3) in given-leaves (fitted (length (c .before .before .before .before .before .before .before .before .before .before .before .before .before .before .before .before .before .before .before .before .before .args .out-x .now)) (length (c .before .before .before .before .before .before .before .before .before .before .before .before .before .before .before .before .before .before .before .before .before .args .out-corners .now)) (c .before .before .before .before .before .before .before .before .before .before .before .before .before .before .before .before .before .before .before .before .before .args .places .now) (triples (c .before .before .before .before .before .before .before .before .before .before .before .before .before .before .before .before .before .before .before .before .before .args .corners .now))) (c .before .before .before .before .before .before .before .before .before .before .before .before .before .before .before .before .before .before .before .before .before .args .places .now) (triples (c .before .before .before .before .before .before .before .before .before .before .before .before .before .before .before .before .before .before .before .before .before .args .corners .now)) (has-room (length (c .before .before .before .before .before .before .before .before .before .before .before .before .before .before .before .before .before .before .before .before .before .args .out-x .now)) (length (c .before .before .before .before .before .before .before .before .before .before .before .before .before .before .before .before .before .before .before .before .before .args .out-corners .now)) (c .before .before .before .before .before .before .before .before .before .before .before .before .before .before .before .before .before .before .before .before .before .args .places .now) (triples (c .before .before .before .before .before .before .before .before .before .before .before .before .before .before .before .before .before .before .before .before .before .args .corners .now)) (omega arith) (omega (arith, e))) refl (omega (arith, e, corners-length (triples (c .before .before .before .before .before .before .before .before .before .before .before .before .before .before .before .before .before .before .before .before .before .args .corners .now)), c .before .before .before .before .before .before .before .before .before .before .before .before .before .before .before .before .before .before .before .before .before .pre .4)) (c .before .before .before .before .before .before .before .before .before .before .gather-into .ensures) (c .before .before .before .before .before .before .gather-into2 .ensures) (c .before .before .copy-words .ensures ∙ ap (put (c .before .before .before .before .before .before .before .before .before .before .before .before .before .before .before .before .before .before .before .before .before .args .out-corners .now) 0) (sym (c .before .before .before .before .before .before .before .before .before .before .before .before .before .before .before .before .before .before .before .before .before .pre .3)))
 
 pub write-cutting-spec : {M : Type 1} → statement M
 write-cutting-spec =
@@ -50,7 +50,7 @@ write-cutting-spec =
     returns-2
     gather-into-requires
     gather-into-requires-2
-    copy-corners-requires
+    copy-words-requires
     same-length
     same-length-2
     same-length-3

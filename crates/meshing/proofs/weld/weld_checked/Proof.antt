@@ -76,11 +76,11 @@ write-places-requires c κs =
     let ez = gather-front nan (a .zs .now) (a .out-z .now) ks (e .3) (e .0) in
     (p .0, p .1, p .2, record { x = ex; y = ey; z = ez }, omega (arith, c .before .before .before .before .before .before .before .before .before .before .before .before .before .before .before .before .if1 .left, p .4, p .8))
 
-copy-kinds-requires : tie.Need-copy-kinds-requires
-copy-kinds-requires c κs = search needs
+copy-bytes-requires : tie.Need-copy-bytes-requires
+copy-bytes-requires c κs = search needs
 
-copy-regions-requires : tie.Need-copy-regions-requires
-copy-regions-requires c κs =
+copy-words-requires : tie.Need-copy-words-requires
+copy-words-requires c κs =
     let p = c .before .before .before .before .before .before .before .before .before .before .before .before .before .before .before .before .before .before .before .before .before .before .before .before .before .before .before .before .before .before .before .before .before .before .before .before .before .pre in
     omega (arith, c .before .before .before .before .before .before .before .before .before .before .before .before .before .before .before .before .before .before .before .before .before .before .before .before .if1 .left, p .3, p .7)
 
@@ -106,7 +106,7 @@ returns-3 : tie.Need-returns-3
 returns-3 c =
     let a = c .before .before .before .before .before .before .before .before .before .before .before .before .before .before .before .before .before .before .before .before .before .before .before .before .before .before .before .before .before .before .before .before .before .before .before .before .before .before .before .before .args in
     let w = c .before .before .before .before .before .before .before .before .before .before .before .before .before .before .before .before .before .before .before .before .before .write-kept in
-    weld-done (a .tolerance) (a .xs .now) (a .ys .now) (a .zs .now) (a .kinds .now) (a .places .now) (a .regions .now) (theMesh (a .out-x .now) (a .out-y .now) (a .out-z .now) (a .out-kinds .now) (a .out-places .now) (a .out-regions .now)) (w .result) (w .ensures .0) _ _ _ _ _ _ (omega (arith, c .before .before .before .before .before .before .before .before .before .before .before .before .before .before .before .before .before .before .before .before .before .before .before .before .before .if2 .left, c .before .before .before .before .before .before .before .before .before .before .before .before .before .before .before .before .before .before .before .before .before .before .before .before .before .before .count-kept .ensures .0, w .ensures .0)) (c .before .before .before .before .before .before .before .before .before .before .before .before .before .before .before .before .before .before .before .before .before .before .before .before .before .before .before .if1 .left) (w .ensures .1) (w .ensures .2) (w .ensures .3) (c .before .before .before .before .before .before .copy-kinds .ensures) (c .before .before .before .before .before .before .before .before .before .before .write-places .ensures) (c .before .before .copy-regions .ensures)
+    weld-done (a .tolerance) (a .xs .now) (a .ys .now) (a .zs .now) (a .kinds .now) (a .places .now) (a .regions .now) (theMesh (a .out-x .now) (a .out-y .now) (a .out-z .now) (a .out-kinds .now) (a .out-places .now) (a .out-regions .now)) (w .result) (w .ensures .0) _ _ _ _ _ _ (omega (arith, c .before .before .before .before .before .before .before .before .before .before .before .before .before .before .before .before .before .before .before .before .before .before .before .before .before .if2 .left, c .before .before .before .before .before .before .before .before .before .before .before .before .before .before .before .before .before .before .before .before .before .before .before .before .before .before .count-kept .ensures .0, w .ensures .0)) (c .before .before .before .before .before .before .before .before .before .before .before .before .before .before .before .before .before .before .before .before .before .before .before .before .before .before .before .if1 .left) (w .ensures .1) (w .ensures .2) (w .ensures .3) (c .before .before .before .before .before .before .copy-bytes .ensures) (c .before .before .before .before .before .before .before .before .before .before .write-places .ensures) (c .before .before .copy-words .ensures)
 
 pub weld-checked-spec : {M : Type 1} → statement M
 weld-checked-spec =
@@ -123,8 +123,8 @@ weld-checked-spec =
     slice-reshare-prefix-write-places-3
     slice-aggregate-write-places-3
     write-places-requires
-    copy-kinds-requires
-    copy-regions-requires
+    copy-bytes-requires
+    copy-words-requires
     same-length
     same-length-2
     same-length-3

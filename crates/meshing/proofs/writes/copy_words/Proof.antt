@@ -1,4 +1,4 @@
--- `copy_regions` meets its contract: the loop copies entry after entry. Assumes nothing.
+-- `copy_words` meets its contract: the loop copies entry after entry. Assumes nothing.
 use Prim.Native.Nat.{_≤_, _-_}
 use native.Mathlib.Omega.{arith}
 use borrow.Author.Needs.{needs}
@@ -7,17 +7,17 @@ use lib.ListN.{length, getD}
 use Rattle.lists.specs.Lists.{put}
 use Rattle.lists.proofs.Fills.{Elems, no-elems, one-elem, all-elems}
 use Rattle.lists.proofs.Copies.{copy-elems}
-use Rattle.meshing.proofs.weld.copy_regions.Statement.{statement}
-use Rattle.meshing.proofs.weld.copy_regions.Tie as tie
+use Rattle.meshing.proofs.writes.copy_words.Statement.{statement}
+use Rattle.meshing.proofs.writes.copy_words.Tie as tie
 
 abbrev Inv-loop : tie.InvT-loop
-Inv-loop regions out₀ e₀ out e = (e ≤ length regions) × Elems out₀ 0 (λ i. getD regions i 0) e out
+Inv-loop l out₀ i₀ out i = (i ≤ length l) × Elems out₀ 0 (λ k. getD l k 0) i out
 
 abbrev μ-loop : tie.MeasureT-loop
-μ-loop regions out₀ e₀ out e = length regions - e
+μ-loop l out₀ i₀ out i = length l - i
 
 loop-holds : tie.Need-loop-holds Inv-loop μ-loop
-loop-holds c = (omega arith, no-elems (c .args .out .now) 0 (λ i. getD (c .args .regions .now) i 0))
+loop-holds c = (omega arith, no-elems (c .args .out .now) 0 (λ i. getD (c .args .l .now) i 0))
 
 mul-out : tie.Need-mul-out Inv-loop μ-loop
 mul-out c = search needs
@@ -31,8 +31,8 @@ mul-out-2 c = omega (arith, c .before .before .loop .inv .1 .long)
 slice-write-out : tie.Need-slice-write-out Inv-loop μ-loop
 slice-write-out c = omega (arith, c .before .before .loop .inv .1 .long)
 
-add-e : tie.Need-add-e Inv-loop μ-loop
-add-e c = search needs
+add-i : tie.Need-add-i Inv-loop μ-loop
+add-i c = search needs
 
 loop-less : tie.Need-loop-less Inv-loop μ-loop
 loop-less c = search needs
@@ -44,10 +44,10 @@ same-length : tie.Need-same-length Inv-loop μ-loop
 same-length c = c .before .loop .inv .1 .long
 
 returns : tie.Need-returns Inv-loop μ-loop
-returns c = all-elems (c .before .loop .inv .1) (omega arith) ∙ ap (put (c .before .before .args .out .now) 0) (copy-elems 0 (c .before .before .args .regions .now))
+returns c = all-elems (c .before .loop .inv .1) (omega arith) ∙ ap (put (c .before .before .args .out .now) 0) (copy-elems 0 (c .before .before .args .l .now))
 
-pub copy-regions-spec : {M : Type 1} → statement M
-copy-regions-spec =
+pub copy-words-spec : {M : Type 1} → statement M
+copy-words-spec =
     tie.close
     (tie.spec
     Inv-loop
@@ -57,7 +57,7 @@ copy-regions-spec =
     shared-slice-read-out
     mul-out-2
     slice-write-out
-    add-e
+    add-i
     loop-less
     loop-again
     same-length

@@ -1,10 +1,12 @@
--- `fill_bytes` meets its contract: the loop fills n places. Assumes nothing.
+-- `fill_reals` meets its contract: the loop fills n places. Assumes nothing.
 use Prim.Native.Nat.{_-_, _≤_}
 use mathlib.Core.Path.{refl}
 use native.Mathlib.Omega.{arith}
 use Rattle.lists.proofs.Fills.{Elems, no-elems, one-elem, all-elems}
-use Rattle.meshing.proofs.grid.fill_bytes.Statement.{statement}
-use Rattle.meshing.proofs.grid.fill_bytes.Tie as tie
+use Rattle.meshing.proofs.writes.fill_reals.Statement.{statement}
+use Rattle.meshing.proofs.writes.fill_reals.Tie as tie
+use Rattle.meshing.proofs.writes.fill_reals.Reads as reads
+use Rattle.meshing.proofs.writes.fill_reals.Lts as lts
 
 abbrev Inv-loop : tie.InvT-loop
 Inv-loop out₀ at n value i₀ out i = Elems out₀ at (λ _. value) i out × (i ≤ n)
@@ -17,6 +19,9 @@ loop-holds c = (no-elems _ _ _, omega arith)
 
 add-out : tie.Need-add-out Inv-loop μ-loop
 add-out c = omega arith
+
+mul-out : tie.Need-mul-out Inv-loop μ-loop
+mul-out c = omega arith
 
 slice-write-out : tie.Need-slice-write-out Inv-loop μ-loop
 slice-write-out c = omega arith
@@ -36,14 +41,15 @@ same-length c = c .before .loop .inv .0 .long
 returns : tie.Need-returns Inv-loop μ-loop
 returns c = all-elems (c .before .loop .inv .0) (omega arith)
 
-pub fill-bytes-spec : {M : Type 1} → statement M
-fill-bytes-spec =
+pub fill-reals-spec : {M : Type 1} → statement M
+fill-reals-spec =
     tie.close
     (tie.spec
     Inv-loop
     μ-loop
     loop-holds
     add-out
+    mul-out
     slice-write-out
     add-i
     loop-less

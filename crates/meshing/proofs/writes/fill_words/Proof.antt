@@ -1,12 +1,10 @@
--- `fill_reals` meets its contract: the loop fills n places. Assumes nothing.
+-- `fill_words` meets its contract: the loop fills n places. Assumes nothing.
 use Prim.Native.Nat.{_-_, _≤_}
 use mathlib.Core.Path.{refl}
 use native.Mathlib.Omega.{arith}
 use Rattle.lists.proofs.Fills.{Elems, no-elems, one-elem, all-elems}
-use Rattle.meshing.proofs.prism.fill_reals.Statement.{statement}
-use Rattle.meshing.proofs.prism.fill_reals.Tie as tie
-use Rattle.meshing.proofs.prism.fill_reals.Reads as reads
-use Rattle.meshing.proofs.prism.fill_reals.Lts as lts
+use Rattle.meshing.proofs.writes.fill_words.Statement.{statement}
+use Rattle.meshing.proofs.writes.fill_words.Tie as tie
 
 abbrev Inv-loop : tie.InvT-loop
 Inv-loop out₀ at n value i₀ out i = Elems out₀ at (λ _. value) i out × (i ≤ n)
@@ -41,8 +39,8 @@ same-length c = c .before .loop .inv .0 .long
 returns : tie.Need-returns Inv-loop μ-loop
 returns c = all-elems (c .before .loop .inv .0) (omega arith)
 
-pub fill-reals-spec : {M : Type 1} → statement M
-fill-reals-spec =
+pub fill-words-spec : {M : Type 1} → statement M
+fill-words-spec =
     tie.close
     (tie.spec
     Inv-loop

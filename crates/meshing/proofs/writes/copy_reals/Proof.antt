@@ -8,10 +8,10 @@ use borrow.Author.Needs.{needs}
 use Rattle.lists.specs.Lists.{put}
 use Rattle.lists.proofs.Copies.{copy-elems}
 use Rattle.lists.proofs.Fills.{Elems, no-elems, one-elem, all-elems}
-use Rattle.meshing.proofs.prism.copy_reals.Statement.{statement}
-use Rattle.meshing.proofs.prism.copy_reals.Tie as tie
-use Rattle.meshing.proofs.prism.copy_reals.Reads as reads
-use Rattle.meshing.proofs.prism.copy_reals.Lts as lts
+use Rattle.meshing.proofs.writes.copy_reals.Statement.{statement}
+use Rattle.meshing.proofs.writes.copy_reals.Tie as tie
+use Rattle.meshing.proofs.writes.copy_reals.Reads as reads
+use Rattle.meshing.proofs.writes.copy_reals.Lts as lts
 
 abbrev Inv-loop : tie.InvT-loop
 Inv-loop l out₀ at i₀ out i = Elems out₀ at (λ k. getD l k nan) i out × (i ≤ length l)

@@ -1,10 +1,10 @@
--- `fill_words` meets its contract: the loop fills n places. Assumes nothing.
+-- `fill_bytes` meets its contract: the loop fills n places. Assumes nothing.
 use Prim.Native.Nat.{_-_, _≤_}
 use mathlib.Core.Path.{refl}
 use native.Mathlib.Omega.{arith}
 use Rattle.lists.proofs.Fills.{Elems, no-elems, one-elem, all-elems}
-use Rattle.meshing.proofs.grid.fill_words.Statement.{statement}
-use Rattle.meshing.proofs.grid.fill_words.Tie as tie
+use Rattle.meshing.proofs.writes.fill_bytes.Statement.{statement}
+use Rattle.meshing.proofs.writes.fill_bytes.Tie as tie
 
 abbrev Inv-loop : tie.InvT-loop
 Inv-loop out₀ at n value i₀ out i = Elems out₀ at (λ _. value) i out × (i ≤ n)
@@ -17,9 +17,6 @@ loop-holds c = (no-elems _ _ _, omega arith)
 
 add-out : tie.Need-add-out Inv-loop μ-loop
 add-out c = omega arith
-
-mul-out : tie.Need-mul-out Inv-loop μ-loop
-mul-out c = omega arith
 
 slice-write-out : tie.Need-slice-write-out Inv-loop μ-loop
 slice-write-out c = omega arith
@@ -39,15 +36,14 @@ same-length c = c .before .loop .inv .0 .long
 returns : tie.Need-returns Inv-loop μ-loop
 returns c = all-elems (c .before .loop .inv .0) (omega arith)
 
-pub fill-words-spec : {M : Type 1} → statement M
-fill-words-spec =
+pub fill-bytes-spec : {M : Type 1} → statement M
+fill-bytes-spec =
     tie.close
     (tie.spec
     Inv-loop
     μ-loop
     loop-holds
     add-out
-    mul-out
     slice-write-out
     add-i
     loop-less
