@@ -20,8 +20,9 @@ done
 clang -no-pie -fsanitize=fuzzer "$out"/objects/*.o "$archive" -o "$out/fuzz"
 host/fuzz/blocks.sh "$archive" "$out/fuzz" > "$out/blocks"
 status=0
-FUZZ_BLOCKS="$out/blocks" FUZZ_UNREACHED="$out/unreached" "$out/fuzz" -seed="$seed" -max_total_time="$seconds" -timeout=20 -rss_limit_mb=1024 -max_len=1024 \
-    -print_final_stats=1 -artifact_prefix="$out/finds/" "$out/corpus" > "$out/log" 2>&1 || status=$?
+export FUZZ_BLOCKS="$out/blocks" FUZZ_UNREACHED="$out/unreached"
+"$out/fuzz" -seed="$seed" -max_total_time="$seconds" -timeout=20 -rss_limit_mb=1024 -max_len=1024 -print_final_stats=1 \
+    -artifact_prefix="$out/finds/" "$out/corpus" > "$out/log" 2>&1 || status=$?
 sed -n '/^stat::/p; /^inputs:/,$p' "$out/log"
 echo "corpus: $(find "$out/corpus" -type f | wc -l) inputs; finds: $(find "$out/finds" -type f | wc -l)"
 if [ "$status" != 0 ]; then
