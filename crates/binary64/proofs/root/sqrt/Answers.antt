@@ -1,11 +1,10 @@
 -- `sqrt` meets its contract: what is not a finite number above zero has the root that the definition says. Assumes nothing.
-use Rattle.std.proofs.Common.{◌≡◌, ℕ, zero, suc, ◌*◌, ◌<◌, ◌≤◌, true, false, T, pos, sym, refl, ◌∙◌, subst, zero-lt-suc, zero-mul, suc-ne-zero, arith, lt→ltb, rules, ltb-false, ltb-true}
+use Rattle.std.proofs.Common.{◌≡◌, ℕ, zero, suc, ◌*◌, ◌<◌, ◌≤◌, true, false, T, pos, sym, refl, ◌∙◌, subst, zero-lt-suc, zero-mul, suc-ne-zero, arith, lt→ltb, ltb-false, ltb-true}
 use lib.Ieee.{Float, nan, inf, fin, up, down, eq, lt, div, of_bits}
 use lib.Ieee.Positive.{positive}
 use Rattle.binary64.specs.Root.{sqrt_of}
 use Rattle.binary64.proofs.Sizes.{is_zero, zero_digits}
-use Rattle.binary64.proofs.root.sqrt.Statement.{statement}
-use Rattle.binary64.proofs.root.sqrt.Tie as tie
+use Rattle.binary64.proofs.root.sqrt.Goals as goal
 
 of-infinity : (x : Float) → eq x (inf false) ≡ true → x ≡ sqrt_of x
 unfolding sqrt_of eq
@@ -34,6 +33,7 @@ of_zero (fin s zero e) h = refl
 of_zero (fin s (suc m) e) h = absurd (suc-ne-zero m (zero_digits s (suc m) e h))
 
 -- not above zero, and no zero
+
 none_below : (x : Float) → lt (fin false 0 (pos 0)) x ≡ false → eq x (fin false 0 (pos 0)) ≡ false → nan ≡ sqrt_of x
 unfolding sqrt_of lt
 none_below nan h k = refl
@@ -46,24 +46,18 @@ none_below (fin false m e) h k = absurd (subst T (sym (is_zero false m e (none (
     none : (a b : ℕ) → a ≡ 0 → b * 1 ≤ a → b ≡ 0
     none a b e h = omega arith
 
-returns : tie.Need-returns
+pub returns-then-x-2 : goal.returns-then-x-2
 unfolding of_bits div
-returns c = of-infinity c.before.before.args.x c.if2.true
+returns-then-x-2 c = of-infinity c.args.x c.if-x-2.true
 
-root-above-zero-requires : tie.Need-root-above-zero-requires
+pub root_above_zero-requires : goal.root_above_zero-requires
 unfolding of_bits div
-root-above-zero-requires c κs = above c.before.before.args.x c.before.if1.true c.if2.false
+root_above_zero-requires c = above c.args.x c.if-x.true c.if-x-2.false
 
-returns-2 : tie.Need-returns-2
-returns-2 c = search rules
-
-returns-3 : tie.Need-returns-3
+pub returns-then-x-3 : goal.returns-then-x-3
 unfolding of_bits
-returns-3 c = of_zero c.before.before.args.x c.if3.true
+returns-then-x-3 c = of_zero c.args.x c.if-x-3.true
 
-returns-4 : tie.Need-returns-4
+pub returns : goal.returns
 unfolding of_bits div
-returns-4 c = none_below c.before.before.args.x c.before.if1.false c.if3.false
-
-pub sqrt-spec : {M : Type 1} → statement M
-sqrt-spec = tie.close (tie.spec returns root-above-zero-requires returns-2 returns-3 returns-4)
+returns c = none_below c.args.x c.if-x.false c.if-x-3.false
