@@ -42,6 +42,9 @@ class Names:
         self.loops = data["loops"]
         self.changed = data["changed"]
         self.variables = {v for _, vs in self.loops for v in vs}
+        self.arms = dict(zip(self.parent, data["arms"]))
+        self.typed = dict(zip(self.parent, data["typed"]))
+        self.fields = {old: dict(more[-1]) for old, more in zip(self.parent, data["places"]) if more[-1]}
         self.steps = {}
         for old, (a, b) in self.step.items():
             if a:
@@ -60,6 +63,29 @@ class Names:
             if p == up:
                 return i
         return None
+
+    def resolve(self, place, parts):
+        """An old path behind the record, in the new names of its first parts, and what is left of it."""
+        first = re.sub(r"_lem$", "", norm(parts[0]))
+        firsts = {first, norm(parts[0])}
+        for p in self.chain(place):
+            for new, step, path in (self.arms[p] or (None, 0, []))[2]:
+                if norm(step) in firsts and path and parts[1 : 1 + len(path)] == path:
+                    return [self.arms[p][0], new], parts[1 + len(path) :]
+        for p in self.chain(place):
+            old, new = self.step[p]
+            if old and norm(old) in firsts:
+                if len(parts) > 1 and parts[1] in self.fields.get(p, {}):
+                    return [new, self.fields[p][parts[1]]], parts[2:]
+                return [new], parts[1:]
+        for p in self.chain(place):
+            for variable, step in self.typed[p]:
+                if norm(step) in firsts:
+                    return ["type_inv", variable], parts[1:]
+        for w in firsts:
+            if len(self.steps.get(w, ())) == 1:
+                return [next(iter(self.steps[w]))], parts[1:]
+        return None, parts
 
     def step_named(self, place, word):
         """The new name of an old step, seen from a place."""
@@ -175,16 +201,16 @@ class Converter:
             if not parts:
                 return root
             first = parts[0]
-            if first in ("args", "requires", "ranges", "new", "type_inv", "auto"):
+            if first in ("args", "requires", "ranges", "type_inv", "auto"):
                 out = [first] + [self.field(x) for x in parts[1:]]
             elif re.sub("_lem$", "", norm(first)) in ("well_formed", "good"):
                 out = ["well_formed"] + parts[1:]
             else:
-                new = names.step_named(place, first)
-                if new is None:
+                out, left = names.resolve(place, parts)
+                if out is None:
                     self.notes.append(f"no step {first} at {place}")
-                    new = first
-                out = [new] + [self.field(x) for x in parts[1:]]
+                    out, left = [first], parts[1:]
+                out = out + [self.field(x) for x in left]
             return root + "".join("." + x for x in out)
 
         # aliases first, in order
