@@ -1,5 +1,5 @@
 -- `add_to` meets its contract: a turn is `sum_more`. Assumes nothing.
-use Prim.Native.Nat.{◌+◌, ◌-◌}
+use Prim.Native.Nat.{◌+◌}
 use native.Mathlib.Omega.{arith}
 use mathlib.Core.Path.{◌≡◌, refl, ap, ◌∙◌}
 use Rattle.openrdson_core.specs.Area.{shoelace}

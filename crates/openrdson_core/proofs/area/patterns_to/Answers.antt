@@ -1,5 +1,5 @@
 -- `patterns_to` meets its contract: a turn is `small_more`. Assumes nothing.
-use Prim.Native.Nat.{ℕ, ◌-◌}
+use Prim.Native.Nat.{ℕ}
 use native.Mathlib.Omega.{arith}
 use mathlib.Core.Path.{◌≡◌, subst}
 use Rattle.openrdson_core.specs.Sums.{Small}

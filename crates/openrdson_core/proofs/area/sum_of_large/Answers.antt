@@ -1,5 +1,4 @@
 -- `sum_of_large` meets its contract: a turn is eight edges, and their points' tests. Assumes nothing.
-use Prim.Native.Nat.{◌-◌}
 use native.Mathlib.Omega.{arith}
 use mathlib.Core.Path.{refl}
 use Rattle.openrdson_core.proofs.area.sum_of_large.Goals as goal

@@ -1,5 +1,4 @@
 -- `sum_of_small` meets its contract: a turn is eight edges, and their points' patterns. Assumes nothing.
-use Prim.Native.Nat.{◌-◌}
 use native.Mathlib.Omega.{arith}
 use mathlib.Core.Path.{refl, sym, ap, ◌∙◌}
 use lib.Ieee.{Float, le}

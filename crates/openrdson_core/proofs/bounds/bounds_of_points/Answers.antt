@@ -1,5 +1,4 @@
 -- `bounds_of_points` meets its contract: a fold. Assumes nothing.
-use Prim.Native.Nat.{◌-◌}
 use native.Mathlib.Omega.{arith}
 use mathlib.Core.Path.{ap, ◌∙◌}
 use Rattle.lists.proofs.Folds.{fold_start, fold_more, fold_end}
