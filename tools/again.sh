@@ -6,7 +6,7 @@ name=$(basename "$(realpath "$crate")")
 grep -oE "^fn $name::[A-Za-z0-9_:]+: (not proved|no proof)" "$log" | sed -E "s/^fn $name:://; s/: .*//; s/::/\//g" | sort -u | while read -r f; do
     at=$crate/proofs/$f
     if git -C "$crate" cat-file -e "$commit:./proofs/$f/Proof.antt" 2>/dev/null; then
-        if [ ! -e "$at/hand" ]; then
+        if true; then
             mkdir -p "$at"
             git -C "$crate" show "$commit:./proofs/$f/Proof.antt" >"$at/Proof.antt"
             rm -f "$at/Answers.antt" "$at/Invariants.antt"

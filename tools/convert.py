@@ -42,6 +42,7 @@ class Names:
         self.loops = data["loops"]
         self.changed = data["changed"]
         self.variables = {v for _, vs in self.loops for v in vs}
+        self.callee = {old: more[2] for old, more in zip(self.parent, (p[1:] for p in data["places"]))}
         self.arms = dict(zip(self.parent, data["arms"]))
         self.typed = dict(zip(self.parent, data["typed"]))
         self.fields = {old: dict(more[-1]) for old, more in zip(self.parent, data["places"]) if more[-1]}
@@ -75,6 +76,15 @@ class Names:
         for p in self.chain(place):
             old, new = self.step[p]
             if old and norm(old) in firsts:
+                params = data_params(self.data, self.callee.get(p))
+                if len(parts) > 2 and parts[1] in ("auto", "new") and params:
+                    digits = []
+                    while len(digits) + 2 < len(parts) and parts[len(digits) + 2] in ("0", "1"):
+                        digits.append(parts[len(digits) + 2])
+                        if digits[-1] == "0":
+                            break
+                    if digits and digits.count("1") < len(params):
+                        return [new, parts[1], params[digits.count("1")]], parts[2 + len(digits) :]
                 if len(parts) > 1 and parts[1] in self.fields.get(p, {}):
                     return [new, self.fields[p][parts[1]]], parts[2:]
                 return [new], parts[1:]
@@ -97,6 +107,10 @@ class Names:
             if len(self.steps.get(norm(w), ())) == 1:
                 return next(iter(self.steps[norm(w)]))
         return None
+
+
+def data_params(data, callee):
+    return data["params"].get(callee) or []
 
 
 def blocks(text):
@@ -200,6 +214,8 @@ class Converter:
                 parts.pop(0)
             if not parts:
                 return root
+            if parts[0] == "pre":
+                parts[0] = "requires"
             first = parts[0]
             if first in ("args", "requires", "ranges", "type_inv", "auto"):
                 out = [first] + [self.field(x) for x in parts[1:]]
