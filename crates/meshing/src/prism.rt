@@ -69,8 +69,8 @@ fn mesh_tris(
     places: &mut [u32],
     regions: &mut [u32],
 ) -> Meshed
-    requires ys_len { (length ys.now ≡ length xs.now) × (length xs.now ≤ 512) × (cornersOf (triples corners.now) ≡ corners.now) × Below (length xs.now) corners.now × (length corners.now ≤ 1530) }
-    requires regions_value { (parallel (the_mesh nx.old ny.old nz.old kinds.old places.old regions.old) ≡ true) × (within counts (the_mesh nx.old ny.old nz.old kinds.old places.old regions.old) ≡ true) }
+    requires ring { (length ys.now ≡ length xs.now) × (length xs.now ≤ 512) × (cornersOf (triples corners.now) ≡ corners.now) × Below (length xs.now) corners.now × (length corners.now ≤ 1530) }
+    requires lists { (parallel (the_mesh nx.old ny.old nz.old kinds.old places.old regions.old) ≡ true) × (within counts (the_mesh nx.old ny.old nz.old kinds.old places.old regions.old) ≡ true) }
     ensures { Adds (fit_part counts (the_mesh nx.old ny.old nz.old kinds.old places.old regions.old) (spec.triangles_part counts.nodes z_bottom z_top xs.now ys.now (triples corners.now))) counts region (the_mesh nx.old ny.old nz.old kinds.old places.old regions.old) (the_mesh nx.new ny.new nz.new kinds.new places.new regions.new) result }
 {
     let n = xs.len();
@@ -117,8 +117,8 @@ fn mesh_cut(
     places: &mut [u32],
     regions: &mut [u32],
 ) -> Meshed
-    requires ys_value { (ring_fault xs.now ys.now ≡ given tt) × (is_rectilinear xs.now ys.now ≡ false) × (ring_x.now ≡ gathered xs.now (kept xs.now ys.now)) × (ring_y.now ≡ gathered ys.now (kept xs.now ys.now)) × (3 ≤ length ring_x.now) × ((length ring_x.now - 2) * 3 ≤ length corners.old) }
-    requires regions_value { (parallel (the_mesh nx.old ny.old nz.old kinds.old places.old regions.old) ≡ true) × (within counts (the_mesh nx.old ny.old nz.old kinds.old places.old regions.old) ≡ true) }
+    requires ring { (ring_fault xs.now ys.now ≡ given tt) × (is_rectilinear xs.now ys.now ≡ false) × (ring_x.now ≡ gathered xs.now (kept xs.now ys.now)) × (ring_y.now ≡ gathered ys.now (kept xs.now ys.now)) × (3 ≤ length ring_x.now) × ((length ring_x.now - 2) * 3 ≤ length corners.old) }
+    requires lists { (parallel (the_mesh nx.old ny.old nz.old kinds.old places.old regions.old) ≡ true) × (within counts (the_mesh nx.old ny.old nz.old kinds.old places.old regions.old) ≡ true) }
     ensures { Adds (and_then (spec.ring_part counts.nodes z_bottom z_top xs.now ys.now) (fit_part counts (the_mesh nx.old ny.old nz.old kinds.old places.old regions.old))) counts region (the_mesh nx.old ny.old nz.old kinds.old places.old regions.old) (the_mesh nx.new ny.new nz.new kinds.new places.new regions.new) result }
 {
     let cut = clip_ring(ring_x, ring_y, corners);
@@ -166,8 +166,8 @@ fn mesh_again(
     places: &mut [u32],
     regions: &mut [u32],
 ) -> Meshed
-    requires ys_value { (ring_fault xs.now ys.now ≡ given tt) × (is_rectilinear xs.now ys.now ≡ false) × (ring_x.now ≡ gathered xs.now (kept xs.now ys.now)) × (ring_y.now ≡ gathered ys.now (kept xs.now ys.now)) }
-    requires regions_value { (parallel (the_mesh nx.old ny.old nz.old kinds.old places.old regions.old) ≡ true) × (within counts (the_mesh nx.old ny.old nz.old kinds.old places.old regions.old) ≡ true) }
+    requires ring { (ring_fault xs.now ys.now ≡ given tt) × (is_rectilinear xs.now ys.now ≡ false) × (ring_x.now ≡ gathered xs.now (kept xs.now ys.now)) × (ring_y.now ≡ gathered ys.now (kept xs.now ys.now)) }
+    requires lists { (parallel (the_mesh nx.old ny.old nz.old kinds.old places.old regions.old) ≡ true) × (within counts (the_mesh nx.old ny.old nz.old kinds.old places.old regions.old) ≡ true) }
     ensures { Adds (and_then (spec.ring_part counts.nodes z_bottom z_top xs.now ys.now) (fit_part counts (the_mesh nx.old ny.old nz.old kinds.old places.old regions.old))) counts region (the_mesh nx.old ny.old nz.old kinds.old places.old regions.old) (the_mesh nx.new ny.new nz.new kinds.new places.new regions.new) result }
 {
     let n = ring_x.len();
