@@ -1,0 +1,22 @@
+-- `lookups` meets its contract: each check is true by the contracts, computed. Assumes nothing.
+use Rattle.lists.specs.Lists.{all_below, first}
+use Rattle.openrdson_core.specs.Bytes.{same, zeros, name_length, name_ok, little}
+use Rattle.openrdson_core.specs.Blocks.{figures_ok, name_or_none, block_ok, row_of}
+use Rattle.openrdson_core.specs.Maps.{lookup}
+use Rattle.worked_blocks.proofs.lookups.Goals as goal
+
+pub expect-requires : goal.expect-requires
+unfolding all_below first same zeros name_length name_ok little figures_ok name_or_none block_ok row_of lookup
+expect-requires c = rw (c.is_found.ensures, c.look_up.ensures)
+
+pub expect-requires-2 : goal.expect-requires-2
+unfolding all_below first same zeros name_length name_ok little figures_ok name_or_none block_ok row_of lookup
+expect-requires-2 c = rw (c.is_found-2.ensures, c.look_up-2.ensures)
+
+pub expect-requires-3 : goal.expect-requires-3
+unfolding all_below first same zeros name_length name_ok little figures_ok name_or_none block_ok row_of lookup
+expect-requires-3 c = rw (c.is_found-3.ensures, c.look_up-3.ensures)
+
+pub expect-requires-4 : goal.expect-requires-4
+unfolding all_below first same zeros name_length name_ok little figures_ok name_or_none block_ok row_of lookup
+expect-requires-4 c = rw (c.lookup_refused.ensures, c.look_up-4.ensures)
