@@ -1,15 +1,29 @@
 // The records of the input, and the counts of their calls.
-ghost use Rattle.std.specs.Prelude.{◌≤◌, length};
+ghost use Rattle.std.specs.Prelude.{◌≤◌, length, IfOk};
 
 use crate::words::word;
+use std::io;
+use std::io::Read;
 
 // Reads on from place `from` to place `to` of the buffer, which must have both, and gives where the input ended.
-pub fn read_on(buffer: &mut [u8], from: usize, to: usize) -> usize
+pub fn read_on(
+    input: &mut impl Read,
+    buffer: &mut [u8],
+    from: usize,
+    to: usize,
+) -> io::Result<usize>
     requires { (from ≤ to) × (to ≤ length buffer.old) }
-    ensures { (from ≤ result) × (result ≤ to) }
+    ensures { IfOk result (λ end. (from ≤ end) × (end ≤ to)) }
 {
-    let more = io::read_full(0, &mut buffer[from..to]);
-    from + more
+    let mut at = from;
+    while at < to {
+        let more = input.read(&mut buffer[at..to])?;
+        if more == 0 {
+            break;
+        }
+        at += more;
+    }
+    Ok(at)
 }
 
 // The first n bytes, or all where there are fewer.
