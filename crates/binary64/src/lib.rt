@@ -1,4 +1,6 @@
 // What Rust's std gave the original on binary64 numbers: range tests, abs, rounding with capping casts, the square root.
+#![tactic(auto)]
+
 mod pattern;
 mod range;
 mod root;

@@ -1,4 +1,6 @@
 // The calls as C functions. A call that can be refused returns the refusal's number, 0 for none, and gives its value through references.
+#![tactic(auto)]
+
 mod answers;
 mod blocks;
 mod boxes;

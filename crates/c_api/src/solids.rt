@@ -175,7 +175,7 @@ pub extern "C" fn openrdson_box_z_bottom(
     z_bottom: f64,
     z_top: f64,
 ) -> f64
-    ensures { result ≡ solids.z_bottom (Box min_x min_y max_x max_y z_bottom z_top) }
+    ensures { result ≡ solids.z_bottom_of (Box min_x min_y max_x max_y z_bottom z_top) }
 {
     let solid = boxed(min_x, min_y, max_x, max_y, z_bottom, z_top);
     solid.z_bottom()
@@ -190,7 +190,7 @@ pub extern "C" fn openrdson_box_z_top(
     z_bottom: f64,
     z_top: f64,
 ) -> f64
-    ensures { result ≡ solids.z_top (Box min_x min_y max_x max_y z_bottom z_top) }
+    ensures { result ≡ solids.z_top_of (Box min_x min_y max_x max_y z_bottom z_top) }
 {
     let solid = boxed(min_x, min_y, max_x, max_y, z_bottom, z_top);
     solid.z_top()
@@ -198,7 +198,7 @@ pub extern "C" fn openrdson_box_z_top(
 
 #[unsafe(no_mangle)]
 pub extern "C" fn openrdson_prism_z_bottom(z_bottom: f64, z_top: f64, start: u32, count: u32) -> f64
-    ensures { result ≡ solids.z_bottom (Prism z_bottom z_top start count) }
+    ensures { result ≡ solids.z_bottom_of (Prism z_bottom z_top start count) }
 {
     let solid = prism(z_bottom, z_top, start, count);
     solid.z_bottom()
@@ -206,7 +206,7 @@ pub extern "C" fn openrdson_prism_z_bottom(z_bottom: f64, z_top: f64, start: u32
 
 #[unsafe(no_mangle)]
 pub extern "C" fn openrdson_prism_z_top(z_bottom: f64, z_top: f64, start: u32, count: u32) -> f64
-    ensures { result ≡ solids.z_top (Prism z_bottom z_top start count) }
+    ensures { result ≡ solids.z_top_of (Prism z_bottom z_top start count) }
 {
     let solid = prism(z_bottom, z_top, start, count);
     solid.z_top()

@@ -1,4 +1,6 @@
 // Extruding polygons into boxes and prisms, the region list, and its volume (the original's geometry crate).
+#![tactic(auto)]
+
 mod extrude;
 mod plans;
 mod polygons;

@@ -6,7 +6,7 @@ use crate::ranges::{ZRange, stack_range};
 use openrdson_core::{Material, Span, find_in_map, find_material, is_marker};
 
 // An outcome without a region, or two heights and a material.
-#[derive(Drop)]
+#[derive(Clone, Copy)]
 pub enum Plan {
     Skipped(u8),
     Between(f64, f64, Material),

@@ -10,8 +10,8 @@ use native.Mathlib.Omega.{arith}
 use lib.Dec.{eqb, ltb}
 use lib.ListN.{length, get_or, take, drop, set, length-append, length-set, get_or-append}
 use lib.Seq.{get_or_at, take-suc, take-suc-set, get_or-set_other, drop-set-lt}
-use borrow.Author.Tests.{ltb-true, ltb-false, lt-ltb, eq-eqb, ne_eqb}
-use Rattle.lists.specs.Counts.{bit, tally, SameEntries, occurs}
+use borrow.Author.Tests.{ltb-true, ltb-false, lt-ltb, ne_eqb}
+use Rattle.lists.specs.Counts.{bit, tally, SameEntries}
 use Rattle.lists.specs.Lists.{runs, elems, passing, all_of, Below}
 use Rattle.lists.proofs.Counts.{total_append, total_sum}
 use Rattle.lists.proofs.Scans.{both, and_false}

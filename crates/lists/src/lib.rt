@@ -1,1 +1,3 @@
+#![tactic(auto)]
+
 // Lists, places and answers: definitions (specs/) and laws (proofs/), and no code.

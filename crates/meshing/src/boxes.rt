@@ -11,7 +11,7 @@ use crate::writes::{fill_bytes, fill_words};
 use openrdson_core::{Bbox, Counts, Material, Refusal, counts_within, has_room, lists_parallel};
 
 // The counts of the mesh with the region's nodes and elements, or why it has none.
-#[derive(Drop)]
+#[derive(Clone, Copy)]
 pub enum Meshed {
     Done(Counts),
     Refused(Refusal),

@@ -7,7 +7,7 @@ ghost use Rattle.meshing.specs.Answers.{counted_answer};
 use openrdson_core::{Measured, Refusal};
 
 // Cell sizes: across, and in height.
-#[derive(Drop)]
+#[derive(Clone, Copy)]
 pub struct MeshConfig {
     pub lateral_cell: f64,
     pub z_cell: f64,

@@ -1,4 +1,6 @@
 // Meshes of regions (the original's meshing/src/lib.rs).
+#![tactic(auto)]
+
 mod boxes;
 mod cells;
 mod crossings;

@@ -8,7 +8,7 @@ ghost use Rattle.meshing.specs.Quads as spec;
 use crate::crossings::edge_at;
 
 // The x of its corners a, b, c, d, counter-clockwise, and the heights of a and b, and of c and d.
-#[derive(Drop)]
+#[derive(Clone, Copy)]
 pub struct Quad {
     pub ax: f64,
     pub bx: f64,

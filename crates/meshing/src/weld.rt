@@ -11,7 +11,7 @@ use crate::writes::{copy_bytes, copy_words};
 use openrdson_core::{Check, Counts, Refusal, lists_parallel};
 
 // What nodes that become one have in common: each coordinate over the tolerance, as a whole number.
-#[derive(Drop)]
+#[derive(Clone, Copy)]
 struct Key {
     x: i64,
     y: i64,

@@ -1,6 +1,6 @@
 -- Name blocks (document 01, "What is lent"): a count of two bytes, little-endian, at most 256, then two parallel arrays of cells, the keys and the values. A block has exactly its counted length.
 use Rattle.std.specs.Prelude.{ℕ, ◌+◌, ◌*◌, ◌%◌, Bool, true, false, not, ◌&&◌, ◌||◌, List, eqb, leb, length}
-use Rattle.std.proofs.Math.Option.{Option, some, none, map}
+use Rattle.std.proofs.Math.Option.{Option, map}
 use Rattle.lists.specs.Lists.{part, all_below, first}
 use Rattle.openrdson_core.specs.Bytes.{byte_at, same, zeros, unpad, name_ok, little}
 use Rattle.openrdson_core.specs.declared.blocks.Cell.{Cell}

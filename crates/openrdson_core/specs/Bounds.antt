@@ -1,5 +1,5 @@
 -- Axis-aligned bounding boxes, as the Rust's `Bbox`: of equal values the first is kept.
-use Rattle.std.specs.Prelude.{ℕ, Bool, true, false, ◌||◌, cond, List, length, Float}
+use Rattle.std.specs.Prelude.{Bool, true, false, ◌||◌, cond, List, length, Float}
 use Rattle.std.specs.Float.{inf}
 use Rattle.std.specs.Float.Ieee.{lt}
 use Rattle.lists.specs.Lists.{fold_below}

@@ -1,5 +1,5 @@
 -- The rectangle test, as the Rust's `is_axis_aligned_rectangle`: every point lies on a corner of the bounding box, and each of the four corners has a point.
-use Rattle.std.specs.Prelude.{ℕ, Bool, false, ◌&&◌, ◌||◌, cond, List, length, Float}
+use Rattle.std.specs.Prelude.{Bool, false, ◌&&◌, ◌||◌, cond, List, length, Float}
 use Rattle.std.specs.Float.Ieee.{le}
 use Rattle.lists.specs.Lists.{all_below, any_below}
 use Rattle.binary64.specs.Numbers.{◌⊖◌, ◌⊗◌, abs, larger}

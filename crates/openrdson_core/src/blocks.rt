@@ -8,7 +8,7 @@ ghost use Rattle.openrdson_core.specs.Answers.{row_answer};
 use crate::bytes::{is_name, is_same, is_zero, little, name_length};
 
 // A cell of a block's array: a layer number of two bytes, a name, a stack entry's figures, a via's two layers.
-#[derive(Drop)]
+#[derive(Clone, Copy)]
 pub enum Cell {
     Number,
     Name,
@@ -17,7 +17,7 @@ pub enum Cell {
 }
 
 // A row of a block, if there is one.
-#[derive(Drop)]
+#[derive(Clone, Copy)]
 pub enum Row {
     At(usize),
     Nowhere,

@@ -8,7 +8,7 @@ use crate::points::{Check, Point, ring_check};
 use crate::refusals::Refusal;
 
 #[repr(C)]
-#[derive(Drop)]
+#[derive(Clone, Copy)]
 pub struct Bbox {
     pub min_x: f64,
     pub min_y: f64,

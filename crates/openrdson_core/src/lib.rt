@@ -1,4 +1,6 @@
 // Points, bounding boxes, areas, the rectangle test and solids (the original's geometry.rs), the kinds of elements and the counts of a mesh (mesh.rs), name blocks and the lookups in them (tech.rs, layout.rs).
+#![tactic(auto)]
+
 mod area;
 mod blocks;
 mod bounds;

@@ -9,7 +9,7 @@ use crate::bytes::name_length;
 use crate::refusals::Refusal;
 
 // A part of a block: a start and a count.
-#[derive(Drop)]
+#[derive(Clone, Copy)]
 pub enum Span {
     Part(usize, usize),
     Empty,

@@ -4,7 +4,7 @@ ghost use Rattle.lists.specs.Lists.{part};
 ghost use Rattle.openrdson_core.specs.Mesh as spec;
 ghost use Rattle.openrdson_core.specs.Answers.{kind_answer};
 
-#[derive(Drop)]
+#[derive(Clone, Copy)]
 pub enum ElementType {
     Tet,
     Hex,
@@ -13,21 +13,21 @@ pub enum ElementType {
 }
 
 // The kind that a number stands for, if any.
-#[derive(Drop)]
+#[derive(Clone, Copy)]
 pub enum Kind {
     Is(ElementType),
     Unknown,
 }
 
 // A node's number, from 0.
-#[derive(Drop)]
+#[derive(Clone, Copy)]
 pub struct NodeNumber(pub u32);
 
 // What stands in a node place that is not used.
 pub const UNUSED: u32 = 4294967295;
 
 #[repr(C)]
-#[derive(Drop)]
+#[derive(Clone, Copy)]
 pub struct Point3 {
     pub x: f64,
     pub y: f64,
@@ -35,7 +35,7 @@ pub struct Point3 {
 }
 
 // How many nodes and elements a mesh has.
-#[derive(Drop)]
+#[derive(Clone, Copy)]
 pub struct Counts {
     pub nodes: usize,
     pub elements: usize,

@@ -7,7 +7,7 @@ ghost use Rattle.openrdson_core.specs.Answers.{check_answer};
 use crate::refusals::Refusal;
 
 #[repr(C)]
-#[derive(Drop)]
+#[derive(Clone, Copy)]
 pub struct Point {
     pub x: f64,
     pub y: f64,

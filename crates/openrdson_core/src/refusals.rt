@@ -3,7 +3,7 @@ ghost use Rattle.std.specs.Prelude.{◌≡◌};
 ghost use Rattle.openrdson_core.specs.Refusals.{refusal_number};
 
 // A case for each of document 01's numbers, in their order from 1 to 16.
-#[derive(Drop)]
+#[derive(Clone, Copy)]
 pub enum Refusal {
     NumberOutOfRange,
     ListTooLong,

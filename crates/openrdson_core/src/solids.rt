@@ -13,15 +13,15 @@ use crate::points::{Check, Measured, Point};
 use crate::refusals::Refusal;
 
 // A material's number, from 1; 0 is unassigned.
-#[derive(Drop)]
+#[derive(Clone, Copy)]
 pub struct Material(pub u32);
 
 // A polygon's number, from 0; 4,294,967,295 is none.
-#[derive(Drop)]
+#[derive(Clone, Copy)]
 pub struct PolygonNumber(pub u32);
 
 // A box with its six bounds, or a prism with two heights and a part of the point lists.
-#[derive(Drop)]
+#[derive(Clone, Copy)]
 pub enum Solid {
     Box {
         min_x: f64,
@@ -40,7 +40,7 @@ pub enum Solid {
 }
 
 // A solid with its material, its net (the caller's number, 0 for none) and the polygon it came from.
-#[derive(Drop)]
+#[derive(Clone, Copy)]
 pub struct SolidRegion {
     pub material_id: Material,
     pub net: u32,
@@ -51,7 +51,7 @@ pub struct SolidRegion {
 impl Solid {
     // The lower height.
     pub fn z_bottom(self) -> f64
-        ensures { result ≡ spec.z_bottom self }
+        ensures { result ≡ spec.z_bottom_of self }
     {
         match self {
             Solid::Box {
@@ -73,7 +73,7 @@ impl Solid {
 
     // The upper height.
     pub fn z_top(self) -> f64
-        ensures { result ≡ spec.z_top self }
+        ensures { result ≡ spec.z_top_of self }
     {
         match self {
             Solid::Box {

@@ -19,7 +19,7 @@ use crate::refusals::Refusal;
 use crate::solids::Material;
 
 // A figure of the stack, if it is present.
-#[derive(Drop)]
+#[derive(Clone, Copy)]
 pub enum Figure {
     Present(f64),
     Absent,

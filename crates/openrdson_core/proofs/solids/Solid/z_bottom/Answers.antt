@@ -1,0 +1,10 @@
+-- `Solid::z_bottom` meets its contract: by the case. Assumes nothing.
+use mathlib.Core.Path.{sym, ap}
+use Rattle.openrdson_core.specs.Solids.{z_bottom_of}
+use Rattle.openrdson_core.proofs.solids.Solid.z_bottom.Goals as goal
+
+pub returns-in-Box : goal.returns-in-Box
+returns-in-Box c = sym (ap z_bottom_of c.in-Box.is)
+
+pub returns-in-Prism : goal.returns-in-Prism
+returns-in-Prism c = sym (ap z_bottom_of c.in-Prism.is)
