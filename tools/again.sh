@@ -13,4 +13,4 @@ grep -oE "^fn $name::[A-Za-z0-9_:]+: (not proved|no proof)" "$log" | sed -E "s/^
         fi
     fi
 done
-python3 "$(dirname "$0")/convert.py" "$crate" "$names"
+python3 "$(dirname "$0")/convert.py" "$crate" "$names" "${@:5}"

@@ -115,6 +115,7 @@ def data_params(data, callee):
 
 def blocks(text):
     """The file's comment, its use lines, and its declarations: (name, signature, unfolding, body lines), each as text."""
+    text = re.sub(r"(?m)^((?:(?:abbrev|pub|unfoldable) )*\S+) :\n +(?=tie\.)", r"\1 : ", text)
     lines = text.splitlines()
     head, uses, rest = [], [], []
     i = 0
@@ -140,6 +141,34 @@ def blocks(text):
     return head, uses, decls, rest
 
 
+def clause_names(crate, path):
+    """The names of a function's own requires, where there are several."""
+    parts = path.split(".")
+    for file in (os.path.join(crate, "src", parts[0] + ".rt"), os.path.join(crate, "src", "lib.rt"), os.path.join(crate, "src", "main.rt")):
+        if os.path.exists(file):
+            text = open(file, encoding="utf-8").read()
+            m = re.search(rf"\bfn {re.escape(parts[-1])}\b.*?\n\s*\{{\n", text, re.S)
+            if m:
+                return re.findall(r"\n\s*requires (\w+) \{", m[0])
+    return []
+
+
+class Lambdas:
+    """The cases of a join: its constructors, and the fields of each in their old order."""
+
+    def __init__(self, generated, name, path):
+        self.came, self.by = {}, {}
+        file = os.path.join(generated, f"Rattle-{name}-proofs", *path.split("."), "Lts.antt") if generated else ""
+        if not os.path.exists(file):
+            return
+        text = open(file, encoding="utf-8").read()
+        for m in re.finditer(r"(?m)^( *)pub data Came-(\S+) : Type 0 where\n((?:\1  .*\n)+)", text):
+            joined = re.sub(rf"\n{m[1]}    +", " ", m[3])
+            self.came[m[2]] = [(c[1], c[2]) for c in re.finditer(r"(\S+) : (By-\S+) →", joined)]
+        for m in re.finditer(r"(?m)^( *)pub record (By-\S+) : Type 0 where\n((?:\1  .*\n)+)", text):
+            self.by[m[2]] = re.findall(rf"(?m)^{m[1]}  pub (\S+) :", m[3])
+
+
 class Converter:
     def __init__(self, crate, names, text, keep_all):
         self.names, self.keep_all = names, keep_all
@@ -147,13 +176,16 @@ class Converter:
         self.goal_of = {}
         self.helper_place = {}
         self.loop_of = {}
+        self.helper_text = {}
+        self.clauses, self.joins = [], None
         self.crate = crate
         self.notes = []
         self.used_places = set()
         for name, line, body in self.decls:
             m = re.search(r":\s*tie\.Need-([^\s]+)", line)
             if m:
-                known = self.names.needs.get(norm(m[1])) or self.names.needs.get(norm(re.sub(r"_lem$", "", m[1])))
+                tries = (m[1], re.sub(r"_lem$", "", m[1]), m[1].replace("preserved", "again"))
+                known = next((self.names.needs[norm(t)] for t in tries if norm(t) in self.names.needs), None)
                 if known is None:
                     self.notes.append(f"no goal for {m[1]}")
                 else:
@@ -186,17 +218,13 @@ class Converter:
             self.notes.append(f"{name} takes {len(args)} and not {len(order)}: {' '.join(args)} for {' '.join(order)}")
         to = dict(zip(args, order))
 
-        def one(p):
-            if p[1] in to:
-                return to[p[1]] + p[2]
-            return p[0]
-
-        out = PATH.sub(one, m[3])
+        out = with_binders(m[3], to)
         full = f"{kind}-{new}"
         return f"abbrev pub {full} : goal.{full}\n{m[1]}{full} l = {out}"
 
     def expression(self, text, place, var="c"):
         names = self.names
+        text = self.cases(text, place)
         alias = {var}
         # a name for the record or for one of its steps
         step_alias = {}
@@ -208,6 +236,15 @@ class Converter:
             root, parts = p[1], [x for x in p[2].split(".") if x]
             if root not in alias:
                 if root in step_alias and parts:
+                    behind = step_alias[root]
+                    if behind[0] in ("args", "ranges"):
+                        return root + "".join("." + self.field(x) for x in parts)
+                    if behind == ["requires"]:
+                        return root + "".join("." + x for x in self.required(parts))
+                    whole, left = names.resolve(place, behind + parts)
+                    plain, more = names.resolve(place, behind)
+                    if whole and plain and whole[: len(plain)] == plain and not more:
+                        return root + "".join("." + x for x in whole[len(plain) :] + [self.field(x) for x in left])
                     return root + "".join("." + self.field(x) for x in parts)
                 return p[0]
             while parts and parts[0] == "before":
@@ -217,7 +254,9 @@ class Converter:
             if parts[0] == "pre":
                 parts[0] = "requires"
             first = parts[0]
-            if first in ("args", "requires", "ranges", "type_inv", "auto"):
+            if first == "requires":
+                out = [first] + self.required(parts[1:])
+            elif first in ("args", "requires", "ranges", "type_inv", "auto"):
                 out = [first] + [self.field(x) for x in parts[1:]]
             elif re.sub("_lem$", "", norm(first)) in ("well_formed", "good"):
                 out = ["well_formed"] + parts[1:]
@@ -235,13 +274,27 @@ class Converter:
             if m[2] in alias:
                 if all(x == "before" for x in parts):
                     alias.add(m[1])
-                elif parts and parts[-1] not in ("now", "result", "invariant", "ensures", "true", "false"):
-                    step_alias[m[1]] = True
+                else:
+                    while parts and parts[0] == "before":
+                        parts.pop(0)
+                    if len(parts) == 1:
+                        step_alias[m[1]] = ["requires" if parts[0] == "pre" else parts[0]]
         text = PATH.sub(one, text)
         # a helper or another goal takes the record where it stands
         for helper, at in list(self.helper_place.items()) + [(n, w[1]) for n, w in self.goal_of.items()]:
             d = names.distance(place, at) if place else None
             new = self.goal_of[helper][0] if helper in self.goal_of else helper
+
+            body = self.helper_text.get(helper)
+            if body and d and self.names.typed[at]:
+
+                def inline(m):
+                    own, sig, put = body
+                    swap = lambda t: re.sub(rf"(?<![\w.'-]){re.escape(own)}(?![\w'-])", m[1], t)
+                    return f"(let held : {swap(sig)} = {swap(put)} in held)"
+
+                text = re.sub(rf"(?<![\w.'-]){re.escape(helper)} ((?:{'|'.join(map(re.escape, alias))})(?![\w.'-]))", inline, text)
+                continue
 
             def call(m):
                 if d is None:
@@ -253,9 +306,92 @@ class Converter:
                 text = re.sub(rf"(?<![\w.'-]){re.escape(helper)}(?![\w'-])", new, text)
         return text
 
+    def required(self, parts):
+        if parts and len(self.clauses) > 1 and re.match(r"\d+$", parts[0]):
+            return [self.clauses[int(parts[0])]] + parts[1:]
+        return parts
+
+    def cases(self, text, place):
+        """Each `⊎_elim (λ w. ..) .. c.step.branch` as an elim with the cases' names."""
+        at = 0
+        while True:
+            start = text.find("⊎_elim", at)
+            if start < 0:
+                return text
+            lambdas, end = self.lambdas(text, start)
+            if not lambdas:
+                at = start + 1
+                continue
+            m = re.match(rf"\s*({WORD}(?:\.{WORD})*)\.branch(?![\w-])", text[end:])
+            if not m:
+                at = start + 1
+                continue
+            root, *parts = m[1].split(".")
+            while parts and parts[0] == "before":
+                parts.pop(0)
+            found = next((p for p in self.names.chain(place) if p in self.joins.came and self.names.step[p][0] and norm(self.names.step[p][0]) == norm(parts[0] if parts else "")), None)
+            if found is None or len(self.joins.came[found]) != len(lambdas):
+                self.notes.append(f"a branch is left: {m[1]}")
+                at = start + 1
+                continue
+            out = []
+            for (var, body), (maker, record) in zip(lambdas, self.joins.came[found]):
+                fields = self.joins.by[record]
+
+                def one(w, fields=fields, var=var):
+                    parts = [x for x in w[2].split(".") if x]
+                    if w[1] != var or not parts or not re.match(r"\d+$", parts[0]) or int(parts[0]) >= len(fields):
+                        return w[0]
+                    field = fields[int(parts[0])]
+                    rest = [{"taken": "true", "left": "false"}.get(x, x) for x in parts[1:]]
+                    if rest:
+                        raw = next((f for p, f in self.names.fields.items() if self.names.step[p][1] == field and rest[0] in f), {})
+                        rest[0] = raw.get(rest[0], rest[0])
+                    return ".".join([var, field] + [self.field(x) for x in rest])
+
+                self.used_places.add(maker)
+                out.append(f"{maker} {var} ↦ {PATH.sub(one, body)}")
+            new = f"elim {m[1]}.branch [ " + " | ".join(out) + " ]"
+            text = text[:start] + new + text[end + m.end() :]
+            at = start + 5
+
+    def lambdas(self, text, start):
+        """The cases behind a ⊎_elim, nested ones in order, and where they end."""
+        at = start + len("⊎_elim")
+        out = []
+        for _ in range(2):
+            while at < len(text) and text[at].isspace():
+                at += 1
+            if at >= len(text) or text[at] != "(":
+                return None, at
+            depth, end = 0, at
+            while end < len(text):
+                depth += text[end] == "("
+                depth -= text[end] == ")"
+                end += 1
+                if depth == 0:
+                    break
+            inner = text[at + 1 : end - 1].strip()
+            m = re.match(rf"λ ({WORD})\.\s(.*)$", inner, re.S)
+            if m:
+                out.append((m[1], m[2]))
+            elif inner.startswith("⊎_elim"):
+                more, stop = self.lambdas(inner, 0)
+                if not more or inner[stop:].strip():
+                    return None, at
+                out += more
+            else:
+                return None, at
+            at = end
+        return out, at
+
     def field(self, word):
         if re.match(r"\d+$", word):
             return word
+        if word in ("true-raw", "false-raw", "branch-raw"):
+            return word
+        if word == "inv":
+            return "invariant"
         if word == "taken":
             return "true"
         if word == "left":
@@ -308,6 +444,10 @@ class Converter:
                 var = m[1] if m else "c"
                 sig = self.expression(sig, place, var)
                 text = self.expression(text, place, var)
+                a = re.search(rf"\({re.escape(var)} : \S+\) → (.*)$", sig)
+                b = re.match(rf"{re.escape(name)} {re.escape(var)}\s*=\s*(.*)$", text, re.S)
+                if a and b:
+                    self.helper_text[name] = (var, a[1], b[1])
             answers.append((sig, text))
         return invariants, answers
 
@@ -316,7 +456,10 @@ class Converter:
         fields = next((f for n, f in self.names.data["asked"].items() if norm(n) == norm(need)), None)
         if not fields or text.strip().startswith("record") or text.strip() in EASY:
             return text
-        parts = tuple_parts(text.strip())
+        before, last = last_in(text)
+        parts = tuple_parts(last.strip())
+        if before and len(parts) == len(fields):
+            return before.rstrip() + "\n    record { " + "; ".join(f"{f} = {p}" for f, p in zip(fields, parts)) + " }"
         if len(parts) == len(fields):
             return "record { " + "; ".join(f"{f} = {p}" for f, p in zip(fields, parts)) + " }"
         return f"let asked = {text} in record {{ " + "; ".join(f"{f} = asked.{i}" for i, f in enumerate(fields)) + " }"
@@ -337,8 +480,49 @@ class Converter:
         return self.names.new_place[place]
 
 
+def with_binders(text, to):
+    """The text with variables respelled, but for those that a lambda binds, up to its end."""
+    out, i, depth, hidden = [], 0, 0, []
+    binder = re.compile(rf"λ ((?:\({WORD} : [^)]*\)|{WORD})(?: {WORD})*)\. ")
+    while i < len(text):
+        m = binder.match(text, i)
+        if m:
+            hidden.append((depth, set(re.findall(WORD, re.sub(r" : [^)]*", "", m[1])))))
+            out.append(m[0])
+            i = m.end()
+            continue
+        if text[i] in "([{":
+            depth += 1
+        elif text[i] in ")]}":
+            depth -= 1
+            while hidden and hidden[-1][0] > depth:
+                hidden.pop()
+        m = PATH.match(text, i)
+        if m and (i == 0 or not re.match(r"[\w.'-]", text[i - 1])):
+            bound = any(m[1] in names for _, names in hidden)
+            out.append(to[m[1]] + m[2] if m[1] in to and not bound else m[0])
+            i = m.end()
+            continue
+        out.append(text[i])
+        i += 1
+    return "".join(out)
+
+
 def m_need_of(line):
     return re.search(r":\s*tie\.Need-([^\s]+)", line)[1]
+
+
+def last_in(text):
+    """What stands up to the last ` in ` outside brackets, and what stands behind it."""
+    depth, at = 0, 0
+    for m in re.finditer(r"[(\[{]|[)\]}]|(?<=\s)in\s", text):
+        if m[0] in "([{":
+            depth += 1
+        elif m[0] in ")]}":
+            depth -= 1
+        elif depth == 0:
+            at = m.end()
+    return text[:at], text[at:]
 
 
 def tuple_parts(text):
@@ -398,6 +582,7 @@ def main():
     words = [w for w in sys.argv[1:] if not w.startswith("--")]
     crate, names_file, only = words[0].rstrip("/"), words[1], words[2:]
     keep_all = "--keep-all" in sys.argv
+    generated = next((w[len("--generated=") :] for w in sys.argv if w.startswith("--generated=")), None)
     data = json.load(open(names_file, encoding="utf-8"))
     name = os.path.basename(os.path.abspath(crate))
     for key, it in sorted(data.items()):
@@ -412,6 +597,8 @@ def main():
         if "tie.close" not in text:
             continue
         c = Converter(crate, Names(key, it), text, keep_all)
+        c.clauses = clause_names(crate, m[1])
+        c.joins = Lambdas(generated, name, m[1])
         invariants, answers = c.convert()
         at = f"Rattle.{name}.proofs.{m[1]}"
         if invariants:

@@ -33,7 +33,7 @@ the_solid_row k x0 y0 x1 y1 z0 z1 s n =
 
 abbrev pub solid_row : Solid → SolidRow
 solid_row s =
-    the_solid_row (regions.kind_of s) (regions.min_xOf s) (regions.min_yOf s) (regions.max_xOf s) (regions.max_yOf s) (z_bottom_of s) (z_top_of s)
+    the_solid_row (regions.kind_of s) (regions.min_x_of s) (regions.min_y_of s) (regions.max_x_of s) (regions.max_y_of s) (z_bottom_of s) (z_top_of s)
     (regions.start_of s) (regions.count_of s)
 
 -- and those of its material, its net and its polygon

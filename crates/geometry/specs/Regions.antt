@@ -105,21 +105,21 @@ abbrev pub kind_of : Solid → ℕ
 kind_of (Box x0 y0 x1 y1 z0 z1) = 0
 kind_of (Prism z0 z1 start count) = 1
 
-abbrev pub min_xOf : Solid → Float
-min_xOf (Box x0 y0 x1 y1 z0 z1) = x0
-min_xOf (Prism z0 z1 start count) = zero64
+abbrev pub min_x_of : Solid → Float
+min_x_of (Box x0 y0 x1 y1 z0 z1) = x0
+min_x_of (Prism z0 z1 start count) = zero64
 
-abbrev pub min_yOf : Solid → Float
-min_yOf (Box x0 y0 x1 y1 z0 z1) = y0
-min_yOf (Prism z0 z1 start count) = zero64
+abbrev pub min_y_of : Solid → Float
+min_y_of (Box x0 y0 x1 y1 z0 z1) = y0
+min_y_of (Prism z0 z1 start count) = zero64
 
-abbrev pub max_xOf : Solid → Float
-max_xOf (Box x0 y0 x1 y1 z0 z1) = x1
-max_xOf (Prism z0 z1 start count) = zero64
+abbrev pub max_x_of : Solid → Float
+max_x_of (Box x0 y0 x1 y1 z0 z1) = x1
+max_x_of (Prism z0 z1 start count) = zero64
 
-abbrev pub max_yOf : Solid → Float
-max_yOf (Box x0 y0 x1 y1 z0 z1) = y1
-max_yOf (Prism z0 z1 start count) = zero64
+abbrev pub max_y_of : Solid → Float
+max_y_of (Box x0 y0 x1 y1 z0 z1) = y1
+max_y_of (Prism z0 z1 start count) = zero64
 
 abbrev pub start_of : Solid → ℕ
 start_of (Box x0 y0 x1 y1 z0 z1) = 0
@@ -132,9 +132,9 @@ count_of (Prism z0 z1 start count) = count
 -- the lists with these regions in them from row k on
 abbrev pub put_regions : Regions → ℕ → List SolidRegion → Regions
 put_regions r k new =
-    the_regions (put r.kinds k (map (λ (g : SolidRegion). kind_of g.solid) new)) (put r.min_x k (map (λ (g : SolidRegion). min_xOf g.solid) new))
-    (put r.min_y k (map (λ (g : SolidRegion). min_yOf g.solid) new)) (put r.max_x k (map (λ (g : SolidRegion). max_xOf g.solid) new))
-    (put r.max_y k (map (λ (g : SolidRegion). max_yOf g.solid) new)) (put r.z_bottom k (map (λ (g : SolidRegion). z_bottom_of g.solid) new))
+    the_regions (put r.kinds k (map (λ (g : SolidRegion). kind_of g.solid) new)) (put r.min_x k (map (λ (g : SolidRegion). min_x_of g.solid) new))
+    (put r.min_y k (map (λ (g : SolidRegion). min_y_of g.solid) new)) (put r.max_x k (map (λ (g : SolidRegion). max_x_of g.solid) new))
+    (put r.max_y k (map (λ (g : SolidRegion). max_y_of g.solid) new)) (put r.z_bottom k (map (λ (g : SolidRegion). z_bottom_of g.solid) new))
     (put r.z_top k (map (λ (g : SolidRegion). z_top_of g.solid) new)) (put r.starts k (map (λ (g : SolidRegion). start_of g.solid) new))
     (put r.counts k (map (λ (g : SolidRegion). count_of g.solid) new)) (put r.materials k (map (λ (g : SolidRegion). g.material_id.0) new))
     (put r.nets k (map (λ (g : SolidRegion). g.net) new)) (put r.polygons k (map (λ (g : SolidRegion). g.source_polygon.0) new))

@@ -1,7 +1,7 @@
 // Writing a row of a region list.
 ghost use Rattle.std.specs.Prelude.{◌≡◌, [], ◌∷◌, ◌<◌, length};
 ghost use Rattle.openrdson_core.specs.Bounds.{the_bbox};
-ghost use Rattle.geometry.specs.Regions.{the_regions, Even, put_regions, kind_of, min_xOf, min_yOf, max_xOf, max_yOf, start_of, count_of};
+ghost use Rattle.geometry.specs.Regions.{the_regions, Even, put_regions, kind_of, min_x_of, min_y_of, max_x_of, max_y_of, start_of, count_of};
 
 use openrdson_core::{Bbox, Solid, SolidRegion};
 
@@ -29,7 +29,7 @@ pub fn kind_of(solid: Solid) -> u8
 
 // A box's first four bounds; zeros for a prism.
 fn sides_of(solid: Solid) -> Bbox
-    ensures { result ≡ the_bbox (min_xOf solid) (min_yOf solid) (max_xOf solid) (max_yOf solid) }
+    ensures { result ≡ the_bbox (min_x_of solid) (min_y_of solid) (max_x_of solid) (max_y_of solid) }
 {
     match solid {
         Solid::Box {

@@ -21,8 +21,8 @@ pub fn write_nodes(
     z1: f64,
     nz: usize,
 )
-    requires nx_bound { (nx ≤ 4096) × (ny ≤ 4096) × (nz ≤ 4096) }
-    requires nz_in_bounds { (at + grid_nodes nx ny nz ≤ length xs.old) × (length ys.old ≡ length xs.old) × (length zs.old ≡ length xs.old) }
+    requires sizes { (nx ≤ 4096) × (ny ≤ 4096) × (nz ≤ 4096) }
+    requires room { (at + grid_nodes nx ny nz ≤ length xs.old) × (length ys.old ≡ length xs.old) × (length zs.old ≡ length xs.old) }
     ensures { (xs.new ≡ put xs.old at (grid nx ny nz (λ i j k. axis_at x0 x1 nx i)))
         × (ys.new ≡ put ys.old at (grid nx ny nz (λ i j k. axis_at y0 y1 ny j)))
         × (zs.new ≡ put zs.old at (grid nx ny nz (λ i j k. axis_at z0 z1 nz k))) }
@@ -57,8 +57,8 @@ fn node_plane(
     ny: usize,
     z: f64,
 )
-    requires nx_bound { (nx ≤ 4096) × (ny ≤ 4096) × (x_step ≡ (x1 ⊖ x0) ⊘ real nx) × (y_step ≡ (y1 ⊖ y0) ⊘ real ny) }
-    requires ny_in_bounds { (at + (nx + 1) * (ny + 1) ≤ length xs.old) × (length ys.old ≡ length xs.old) × (length zs.old ≡ length xs.old) }
+    requires sizes { (nx ≤ 4096) × (ny ≤ 4096) × (x_step ≡ (x1 ⊖ x0) ⊘ real nx) × (y_step ≡ (y1 ⊖ y0) ⊘ real ny) }
+    requires room { (at + (nx + 1) * (ny + 1) ≤ length xs.old) × (length ys.old ≡ length xs.old) × (length zs.old ≡ length xs.old) }
     ensures { (xs.new ≡ put xs.old at (plane nx ny (λ i j. axis_at x0 x1 nx i)))
         × (ys.new ≡ put ys.old at (plane nx ny (λ i j. axis_at y0 y1 ny j)))
         × (zs.new ≡ put zs.old at (plane nx ny (λ i j. z))) }
@@ -87,8 +87,8 @@ fn node_row(
     y: f64,
     z: f64,
 )
-    requires nx_bound { (nx ≤ 4096) × (step ≡ (x1 ⊖ x0) ⊘ real nx) }
-    requires nx_in_bounds { (at + (nx + 1) ≤ length xs.old) × (length ys.old ≡ length xs.old) × (length zs.old ≡ length xs.old) }
+    requires sizes { (nx ≤ 4096) × (step ≡ (x1 ⊖ x0) ⊘ real nx) }
+    requires room { (at + (nx + 1) ≤ length xs.old) × (length ys.old ≡ length xs.old) × (length zs.old ≡ length xs.old) }
     ensures { (xs.new ≡ put xs.old at (elems (nx + 1) (λ i. axis_at x0 x1 nx i)))
         × (ys.new ≡ put ys.old at (elems (nx + 1) (λ i. y)))
         × (zs.new ≡ put zs.old at (elems (nx + 1) (λ i. z))) }
@@ -132,8 +132,8 @@ fn axis_step(low: f64, high: f64, n: usize) -> f64
 // Writes the node places of a box's hexes from place `at` on; its first node has the number `base`. For callers that have found room for
 // the places, and for the nodes in a mesh.
 pub fn write_hexes(places: &mut [u32], at: usize, base: usize, nx: usize, ny: usize, nz: usize)
-    requires nx_bound { (nx ≤ 4096) × (ny ≤ 4096) × (nz ≤ 4096) }
-    requires nz_in_bounds { (at + 8 * grid_cells nx ny nz ≤ length places.old) × (base + grid_nodes nx ny nz ≤ 1048576) }
+    requires sizes { (nx ≤ 4096) × (ny ≤ 4096) × (nz ≤ 4096) }
+    requires room { (at + 8 * grid_cells nx ny nz ≤ length places.old) × (base + grid_nodes nx ny nz ≤ 1048576) }
     ensures { places.new ≡ put places.old at (hex_places base nx ny nz) }
 {
     let up = (nx + 1) * (ny + 1);
@@ -151,8 +151,8 @@ pub fn write_hexes(places: &mut [u32], at: usize, base: usize, nx: usize, ny: us
 
 // A plane of hexes, ny rows; their first node has the number a.
 fn hex_plane(places: &mut [u32], at: usize, a: usize, nx: usize, ny: usize)
-    requires nx_bound { (nx ≤ 4096) × (ny ≤ 4096) }
-    requires nx_in_bounds { (at + ny * (nx * 8) ≤ length places.old) × (a + ((nx + 1) * (ny + 1) + (nx + 1) * (ny + 1)) ≤ 1048576) }
+    requires sizes { (nx ≤ 4096) × (ny ≤ 4096) }
+    requires room { (at + ny * (nx * 8) ≤ length places.old) × (a + ((nx + 1) * (ny + 1) + (nx + 1) * (ny + 1)) ≤ 1048576) }
     ensures { places.new ≡ put places.old at (runs ny (λ j. runs nx (λ i. hex_at a nx ny i j 0))) }
 {
     let back = nx + 1;
@@ -170,8 +170,8 @@ fn hex_plane(places: &mut [u32], at: usize, a: usize, nx: usize, ny: usize)
 
 // A row of nx hexes; their first node has the number `first`.
 fn hex_row(places: &mut [u32], at: usize, first: usize, nx: usize, ny: usize)
-    requires nx_bound { (nx ≤ 4096) × (ny ≤ 4096) }
-    requires nx_in_bounds { (at + nx * 8 ≤ length places.old) × (first + ((nx + 1) + (nx + 1) + (nx + 1) * (ny + 1)) ≤ 1048576) }
+    requires sizes { (nx ≤ 4096) × (ny ≤ 4096) }
+    requires room { (at + nx * 8 ≤ length places.old) × (first + ((nx + 1) + (nx + 1) + (nx + 1) * (ny + 1)) ≤ 1048576) }
     ensures { places.new ≡ put places.old at (runs nx (λ i. hex_at first nx ny i 0 0)) }
 {
     let back = (nx + 1) as u32;

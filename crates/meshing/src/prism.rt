@@ -6,7 +6,7 @@ ghost use Rattle.openrdson_core.specs.Points.{ring_fault};
 ghost use Rattle.openrdson_core.specs.Mesh.{the_mesh, parallel, within};
 ghost use Rattle.openrdson_core.specs.Answers.{check_answer};
 ghost use Rattle.meshing.specs.Added.{Adds, fit_part};
-ghost use Rattle.meshing.specs.Triangles.{corners as cornersOf, triples};
+ghost use Rattle.meshing.specs.Triangles.{corners as corners_of, triples};
 ghost use Rattle.meshing.specs.Ring.{kept, gathered};
 ghost use Rattle.meshing.specs.Rectilinear.{is_rectilinear};
 ghost use Rattle.meshing.specs.Prisms as spec;
@@ -25,7 +25,7 @@ use openrdson_core::{
 
 // Writes the node places of the prisms on triangles, from place `at` on, where the n bottom nodes start at `base`.
 fn write_prisms(places: &mut [u32], at: usize, base: usize, n: usize, corners: &[u32])
-    requires { (cornersOf (triples corners.now) ≡ corners.now) × Below n corners.now × (base + (n + n) ≤ 1048576) × (at + 8 * length (triples corners.now) ≤ length places.old) }
+    requires { (corners_of (triples corners.now) ≡ corners.now) × Below n corners.now × (base + (n + n) ≤ 1048576) × (at + 8 * length (triples corners.now) ≤ length places.old) }
     ensures { places.new ≡ put places.old at (joined (spec.prism_places base n) (triples corners.now)) }
 {
     let bottom = base as u32;
@@ -69,8 +69,13 @@ fn mesh_tris(
     places: &mut [u32],
     regions: &mut [u32],
 ) -> Meshed
-    requires ys_len { (length ys.now ≡ length xs.now) × (length xs.now ≤ 512) × (cornersOf (triples corners.now) ≡ corners.now) × Below (length xs.now) corners.now × (length corners.now ≤ 1530) }
-    requires regions_value { (parallel (the_mesh nx.old ny.old nz.old kinds.old places.old regions.old) ≡ true) × (within counts (the_mesh nx.old ny.old nz.old kinds.old places.old regions.old) ≡ true) }
+<<<<<<< HEAD
+    requires ring { (length ys.now ≡ length xs.now) × (length xs.now ≤ 512) × (cornersOf (triples corners.now) ≡ corners.now) × Below (length xs.now) corners.now × (length corners.now ≤ 1530) }
+    requires lists { (parallel (the_mesh nx.old ny.old nz.old kinds.old places.old regions.old) ≡ true) × (within counts (the_mesh nx.old ny.old nz.old kinds.old places.old regions.old) ≡ true) }
+=======
+    requires ring { (length ys.now ≡ length xs.now) × (length xs.now ≤ 512) × (corners_of (triples corners.now) ≡ corners.now) × Below (length xs.now) corners.now × (length corners.now ≤ 1530) }
+    requires lists { (parallel (the_mesh nx.old ny.old nz.old kinds.old places.old regions.old) ≡ true) × (within counts (the_mesh nx.old ny.old nz.old kinds.old places.old regions.old) ≡ true) }
+>>>>>>> ffdc3914354e397e001578475a7610538f5bed06
     ensures { Adds (fit_part counts (the_mesh nx.old ny.old nz.old kinds.old places.old regions.old) (spec.triangles_part counts.nodes z_bottom z_top xs.now ys.now (triples corners.now))) counts region (the_mesh nx.old ny.old nz.old kinds.old places.old regions.old) (the_mesh nx.new ny.new nz.new kinds.new places.new regions.new) result }
 {
     let n = xs.len();
@@ -117,8 +122,8 @@ fn mesh_cut(
     places: &mut [u32],
     regions: &mut [u32],
 ) -> Meshed
-    requires ys_value { (ring_fault xs.now ys.now ≡ given tt) × (is_rectilinear xs.now ys.now ≡ false) × (ring_x.now ≡ gathered xs.now (kept xs.now ys.now)) × (ring_y.now ≡ gathered ys.now (kept xs.now ys.now)) × (3 ≤ length ring_x.now) × ((length ring_x.now - 2) * 3 ≤ length corners.old) }
-    requires regions_value { (parallel (the_mesh nx.old ny.old nz.old kinds.old places.old regions.old) ≡ true) × (within counts (the_mesh nx.old ny.old nz.old kinds.old places.old regions.old) ≡ true) }
+    requires ring { (ring_fault xs.now ys.now ≡ given tt) × (is_rectilinear xs.now ys.now ≡ false) × (ring_x.now ≡ gathered xs.now (kept xs.now ys.now)) × (ring_y.now ≡ gathered ys.now (kept xs.now ys.now)) × (3 ≤ length ring_x.now) × ((length ring_x.now - 2) * 3 ≤ length corners.old) }
+    requires lists { (parallel (the_mesh nx.old ny.old nz.old kinds.old places.old regions.old) ≡ true) × (within counts (the_mesh nx.old ny.old nz.old kinds.old places.old regions.old) ≡ true) }
     ensures { Adds (and_then (spec.ring_part counts.nodes z_bottom z_top xs.now ys.now) (fit_part counts (the_mesh nx.old ny.old nz.old kinds.old places.old regions.old))) counts region (the_mesh nx.old ny.old nz.old kinds.old places.old regions.old) (the_mesh nx.new ny.new nz.new kinds.new places.new regions.new) result }
 {
     let cut = clip_ring(ring_x, ring_y, corners);
@@ -166,8 +171,8 @@ fn mesh_again(
     places: &mut [u32],
     regions: &mut [u32],
 ) -> Meshed
-    requires ys_value { (ring_fault xs.now ys.now ≡ given tt) × (is_rectilinear xs.now ys.now ≡ false) × (ring_x.now ≡ gathered xs.now (kept xs.now ys.now)) × (ring_y.now ≡ gathered ys.now (kept xs.now ys.now)) }
-    requires regions_value { (parallel (the_mesh nx.old ny.old nz.old kinds.old places.old regions.old) ≡ true) × (within counts (the_mesh nx.old ny.old nz.old kinds.old places.old regions.old) ≡ true) }
+    requires ring { (ring_fault xs.now ys.now ≡ given tt) × (is_rectilinear xs.now ys.now ≡ false) × (ring_x.now ≡ gathered xs.now (kept xs.now ys.now)) × (ring_y.now ≡ gathered ys.now (kept xs.now ys.now)) }
+    requires lists { (parallel (the_mesh nx.old ny.old nz.old kinds.old places.old regions.old) ≡ true) × (within counts (the_mesh nx.old ny.old nz.old kinds.old places.old regions.old) ≡ true) }
     ensures { Adds (and_then (spec.ring_part counts.nodes z_bottom z_top xs.now ys.now) (fit_part counts (the_mesh nx.old ny.old nz.old kinds.old places.old regions.old))) counts region (the_mesh nx.old ny.old nz.old kinds.old places.old regions.old) (the_mesh nx.new ny.new nz.new kinds.new places.new regions.new) result }
 {
     let n = ring_x.len();

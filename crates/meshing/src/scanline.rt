@@ -5,7 +5,7 @@ ghost use Rattle.lists.specs.Lists.{put, runs, joined};
 ghost use Rattle.openrdson_core.specs.Points.{ring_fault};
 ghost use Rattle.openrdson_core.specs.Mesh.{the_mesh, parallel, within};
 ghost use Rattle.meshing.specs.Added.{Adds, fit_part};
-ghost use Rattle.meshing.specs.Levels.{the_band, levels as levelsOf, bands_of, middle as middle_of};
+ghost use Rattle.meshing.specs.Levels.{the_band, levels as levels_of, bands_of, middle as middle_of};
 ghost use Rattle.meshing.specs.Quads.{band_quads};
 ghost use Rattle.meshing.specs.Scanline as spec;
 
@@ -71,7 +71,7 @@ fn tally_bands(xs: &[f64], ys: &[f64], levels: &[f64], edges: &mut [usize], at: 
 
 // What the scanline answers: 3, 9, 1 for a crossing, 11, 1 for a node. The crossings of a height are never odd in number, so 10 does not arise.
 fn scan_ring(xs: &[f64], ys: &[f64], levels: &[f64], edges: &mut [usize], at: &mut [f64]) -> Scanned
-    requires { spec.Worked xs.now ys.now levels.now (length edges.old) (length at.old) × (levels.now ≡ levelsOf ys.now) }
+    requires { spec.Worked xs.now ys.now levels.now (length edges.old) (length at.old) × (levels.now ≡ levels_of ys.now) }
     ensures { spec.scanned_answer result ≡ map_answer length (spec.scanline_of xs.now ys.now) }
 {
     if xs.len() < 3 {
@@ -107,7 +107,7 @@ fn write_bands(
     p: usize,
 )
     requires worked { spec.Worked xs.now ys.now levels.now (length edges.old) (length at.old) × (spec.bands_in xs.now ys.now (bands_of levels.now) ≡ true) }
-    requires levels_in_bounds { (p + length (joined spec.quad_xs (joined (band_quads xs.now ys.now) (bands_of levels.now))) ≤ length nx.old) × (length ny.old ≡ length nx.old) }
+    requires room { (p + length (joined spec.quad_xs (joined (band_quads xs.now ys.now) (bands_of levels.now))) ≤ length nx.old) × (length ny.old ≡ length nx.old) }
     ensures { (nx.new ≡ put nx.old p (joined spec.quad_xs (joined (band_quads xs.now ys.now) (bands_of levels.now))))
         × (ny.new ≡ put ny.old p (joined spec.quad_ys (joined (band_quads xs.now ys.now) (bands_of levels.now)))) }
 {
@@ -217,8 +217,8 @@ fn write_scanline(
     places: &mut [u32],
     regions: &mut [u32],
 ) -> Meshed
-    requires worked { spec.Worked xs.now ys.now levels.now (length edges.old) (length at.old) × (levels.now ≡ levelsOf ys.now) × (map_answer length (spec.scanline_of xs.now ys.now) ≡ given n) }
-    requires regions_value { (parallel (the_mesh nx.old ny.old nz.old kinds.old places.old regions.old) ≡ true) × (within counts (the_mesh nx.old ny.old nz.old kinds.old places.old regions.old) ≡ true) }
+    requires worked { spec.Worked xs.now ys.now levels.now (length edges.old) (length at.old) × (levels.now ≡ levels_of ys.now) × (map_answer length (spec.scanline_of xs.now ys.now) ≡ given n) }
+    requires lists { (parallel (the_mesh nx.old ny.old nz.old kinds.old places.old regions.old) ≡ true) × (within counts (the_mesh nx.old ny.old nz.old kinds.old places.old regions.old) ≡ true) }
     ensures { Adds (and_then (map_answer (spec.quads_part counts.nodes z_bottom z_top) (spec.scanline_of xs.now ys.now)) (fit_part counts (the_mesh nx.old ny.old nz.old kinds.old places.old regions.old))) counts region (the_mesh nx.old ny.old nz.old kinds.old places.old regions.old) (the_mesh nx.new ny.new nz.new kinds.new places.new regions.new) result }
 {
     if !has_room(8 * n, counts.nodes, nx.len()) {
@@ -256,8 +256,8 @@ fn mesh_levels(
     places: &mut [u32],
     regions: &mut [u32],
 ) -> Meshed
-    requires ys_value { (ring_fault xs.now ys.now ≡ given tt) × (length ys.now ≤ length levels.old) × (length ys.now ≤ length edges.old) × (length ys.now ≤ length at.old) }
-    requires regions_value { (parallel (the_mesh nx.old ny.old nz.old kinds.old places.old regions.old) ≡ true) × (within counts (the_mesh nx.old ny.old nz.old kinds.old places.old regions.old) ≡ true) }
+    requires ring { (ring_fault xs.now ys.now ≡ given tt) × (length ys.now ≤ length levels.old) × (length ys.now ≤ length edges.old) × (length ys.now ≤ length at.old) }
+    requires lists { (parallel (the_mesh nx.old ny.old nz.old kinds.old places.old regions.old) ≡ true) × (within counts (the_mesh nx.old ny.old nz.old kinds.old places.old regions.old) ≡ true) }
     ensures { Adds (and_then (map_answer (spec.quads_part counts.nodes z_bottom z_top) (spec.scanline_of xs.now ys.now)) (fit_part counts (the_mesh nx.old ny.old nz.old kinds.old places.old regions.old))) counts region (the_mesh nx.old ny.old nz.old kinds.old places.old regions.old) (the_mesh nx.new ny.new nz.new kinds.new places.new regions.new) result }
 {
     let m = level_list(ys, levels);

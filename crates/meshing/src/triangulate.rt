@@ -3,7 +3,7 @@ ghost use Rattle.std.specs.Prelude.{◌+◌, ◌-◌, ◌*◌, ◌≤◌, ◌<�
 ghost use Rattle.lists.specs.Answer.{given, map_answer};
 ghost use Rattle.lists.specs.Lists.{put, Below};
 ghost use Rattle.openrdson_core.specs.Points.{ring_fault};
-ghost use Rattle.meshing.specs.Triangles.{walk as walk_of, corners as cornersOf, triples};
+ghost use Rattle.meshing.specs.Triangles.{walk as walk_of, corners as corners_of, triples};
 ghost use Rattle.meshing.specs.Ring.{kept};
 ghost use Rattle.meshing.specs.Ears.{triangles_of};
 ghost use Rattle.meshing.specs.Answers.{cut_answer};
@@ -55,7 +55,7 @@ fn write_cutting(
     out_y: &mut [f64],
     out_corners: &mut [u32],
 ) -> Triangulated
-    requires { Below (length xs.now) places.now × (length xs.now ≡ length ys.now) × (length out_x.old ≡ length out_y.old) × (cornersOf (triples corners.now) ≡ corners.now) × (length corners.now ≡ triangles * 3) }
+    requires { Below (length xs.now) places.now × (length xs.now ≡ length ys.now) × (length out_x.old ≡ length out_y.old) × (corners_of (triples corners.now) ≡ corners.now) × (length corners.now ≡ triangles * 3) }
     ensures { spec.Leaves (spec.fitted (length out_x.old) (length out_corners.old) places.now (triples corners.now)) xs.now ys.now out_x.old out_y.old out_corners.old result out_x.new out_y.new out_corners.new }
 {
     if places.len() > out_x.len() {
@@ -73,7 +73,7 @@ fn write_cutting(
 // Clips a ring of three points or more, walked round in the direction of its area. For callers that have checked the ring.
 pub fn clip_ring(xs: &[f64], ys: &[f64], corners: &mut [u32]) -> Cut
     requires { (ring_fault xs.now ys.now ≡ given tt) × (3 ≤ length xs.now) × ((length xs.now - 2) * 3 ≤ length corners.old) }
-    ensures { cut_answer result (take ((length xs.now - 2) * 3) corners.new) ≡ map_answer cornersOf (triangles_of xs.now ys.now) }
+    ensures { cut_answer result (take ((length xs.now - 2) * 3) corners.new) ≡ map_answer corners_of (triangles_of xs.now ys.now) }
 {
     let signed = polygon_signed_area(xs, ys);
     match signed {

@@ -1,4 +1,6 @@
 // Each call's answer compared with what is expected of it: for the programs of worked shapes.
+#![tactic(auto)]
+
 mod answers;
 mod kinds;
 mod names;

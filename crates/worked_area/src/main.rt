@@ -1,4 +1,6 @@
 // Areas: the triangle (0,0), (0,1), (1,0), both ways round, and the refusals 16, 2 and 1.
+#![tactic(auto)]
+
 use check::expect;
 use worked::{
     area_is, area_refused, ccw_is, ccw_refused, check_refused, signed_is, signed_refused,

@@ -1,4 +1,6 @@
 // Name blocks: markers, empty blocks, a block of one row that has none, and maps of one row, a to b and a to cc.
+#![tactic(auto)]
+
 use check::expect;
 use openrdson_core::{check_blocks, is_marker, look_up};
 use worked::{check_fine, check_refused, is_found, lookup_refused};

@@ -1,4 +1,6 @@
 // Bounding boxes: of the triangle (0,0), (2,0), (1,4), the empty box, and a box that is extended.
+#![tactic(auto)]
+
 use check::expect;
 use openrdson_core::{Bbox, Point};
 use worked::{bounds_are, bounds_refused, box_is, point_is};

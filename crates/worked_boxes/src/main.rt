@@ -1,4 +1,6 @@
 // Cells, coordinates, the default cell sizes, and the box 0..2 by 0..1 by 0..1 in cells of 1.
+#![tactic(auto)]
+
 mod answers;
 
 use answers::{cells_refused, coordinate_refused, is_cells, is_coordinate};

@@ -1,4 +1,6 @@
 // Extruding and the total volume: the bow-tie, a triangle, a box of explicit bounds, and the total of a box and a prism.
+#![tactic(auto)]
+
 mod answers;
 mod rows;
 

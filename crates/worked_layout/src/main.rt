@@ -1,4 +1,6 @@
 // Stacking: a square on a named layer, and one on a layer without a name.
+#![tactic(auto)]
+
 mod answers;
 
 use answers::is_count;

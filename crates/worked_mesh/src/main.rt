@@ -1,4 +1,6 @@
 // Meshes: the four kinds, lists of a tet and a hex, the room in a list of eight, and a tet beside a pyramid that has one place too many.
+#![tactic(auto)]
+
 use check::expect;
 use openrdson_core::{
     Counts, ElementType, Point3, counts_within, element_inside, element_sound, has_room,

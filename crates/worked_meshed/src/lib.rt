@@ -1,4 +1,6 @@
 // What a region call answers, compared with what is expected.
+#![tactic(auto)]
+
 ghost use Rattle.std.specs.Prelude.{◌≡◌};
 ghost use Rattle.meshing.specs.Added.{meshed_answer};
 ghost use Rattle.worked.specs.Asked.{is_refused};

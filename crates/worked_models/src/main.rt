@@ -1,4 +1,6 @@
 // Models: refused regions amid others, and a job with too few diagnostics.
+#![tactic(auto)]
+
 use check::expect;
 use meshing::{MeshConfig, mesh_model};
 use openrdson_core::Counts;

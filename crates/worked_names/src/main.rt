@@ -1,4 +1,6 @@
 // Names in blocks: layer -2 is named a, the via v goes up from m and has no top, maps of one row lead from a to b and from a to cc, and a map of two leads from a and b to c.
+#![tactic(auto)]
+
 use check::expect;
 use worked::{
     layer_name_is, layer_name_refused, physical_name_is, place_is, place_starts, via_absent, via_is,

@@ -1,4 +1,6 @@
 // Numbers: sizes and roots, rounding, and the limits of what is admitted.
+#![tactic(auto)]
+
 use binary64::{
     abs, ceil_capped, coordinate_in_range, extent_in_range, figure_in_range, from_bits, infinity,
     is_within, larger, minus_infinity, nearest_capped, sqrt,

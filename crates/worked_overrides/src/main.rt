@@ -1,4 +1,6 @@
 // Models with overrides: cell sizes by material.
+#![tactic(auto)]
+
 use check::expect;
 use meshing::{MeshConfig, mesh_model_with_options};
 use openrdson_core::Counts;

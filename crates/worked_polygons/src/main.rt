@@ -1,4 +1,6 @@
 // Cleaning and triangulating document 01's shapes: a square, a triangle that turns clockwise, four points on a line, and a ring with close points.
+#![tactic(auto)]
+
 mod answers;
 
 use answers::{is_counts, is_points, triangles_refused};

@@ -1,4 +1,6 @@
 // Prisms: document 01's L, two edges that cross at one place, plates about 1e-30 in area, and regions.
+#![tactic(auto)]
+
 use check::expect;
 use meshing::{MeshConfig, mesh_prism, mesh_region};
 use openrdson_core::{Counts, Material, PolygonNumber, Solid, SolidRegion};

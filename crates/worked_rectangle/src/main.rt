@@ -1,4 +1,6 @@
 // The rectangle test: a box is a ring on the four corners of its bounds, in any order.
+#![tactic(auto)]
+
 use check::expect;
 use worked::{rectangle_is, rectangle_refused};
 

@@ -1,4 +1,6 @@
 // Solids: the box 0..2 by 0..1 by 0..3, and a prism of height 2 over a triangle that is a part of the point lists.
+#![tactic(auto)]
+
 use check::expect;
 use openrdson_core::{Material, PolygonNumber, Refusal, Solid, SolidRegion};
 use worked::{

@@ -1,4 +1,6 @@
 // Stacks: one layer m of height 1, the same with an infinite height or another flag, a diffusion n and a via v.
+#![tactic(auto)]
+
 use check::expect;
 use openrdson_core::{check_blocks, material_number, stack_layer};
 use worked::{check_refused, height_is, is_material, layer_refused, material_refused};

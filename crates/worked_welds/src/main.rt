@@ -1,4 +1,6 @@
 // Welding and volumes: document 01's nodes, halves, a tet, a prism, and meshes that are refused.
+#![tactic(auto)]
+
 use check::expect;
 use meshing::{mesh_volume, weld_nodes};
 use worked::{is_number, number_refused};
