@@ -1,17 +1,17 @@
 -- Stacking a layout: a law a refusal, what is written where there is room, and the plans by the table. Assumes nothing.
-use Prim.Native.Nat.{ℕ, ◌+◌, ◌≤◌, ◌<◌}
+use Prim.Native.Nat.{ℕ, ◌≤◌, ◌<◌}
 use mathlib.Core.Path.{◌≡◌, refl, sym, ap, ◌∙◌, subst, fun_ext}
 use mathlib.Core.Bool.{true, false}
 use mathlib.Core.List.{List}
 use native.Mathlib.Omega.{arith}
 use lib.ListN.{length}
 use borrow.Author.Tests.{le-leb, lt-leb}
-use Rattle.lists.specs.Answer.{Answer, refused, given, unless, and_then, map_answer, left}
+use Rattle.lists.specs.Answer.{Answer, refused, given}
 use Rattle.lists.specs.Lists.{put}
 use Rattle.lists.proofs.Answers.{passed}
 use Rattle.openrdson_core.specs.Refusals.{refusal_number}
 use Rattle.openrdson_core.specs.Blocks.{count, layer_names_ok, map_ok, stack_ok, vias_ok}
-use Rattle.openrdson_core.specs.Tech.{stack_in, blocks_fault}
+use Rattle.openrdson_core.specs.Tech.{blocks_fault}
 use Rattle.openrdson_core.specs.declared.refusals.Refusal.{Refusal}
 use Rattle.geometry.specs.Regions.{Regions, even_regions, put_regions}
 use Rattle.geometry.specs.Polygons.{Polygons, even_polygons, parts_fault, layer_at}

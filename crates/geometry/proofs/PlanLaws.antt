@@ -1,17 +1,16 @@
 -- Plans, case by case. Assumes nothing.
-use mathlib.Core.Path.{◌≡◌, refl, sym, ap, ◌∙◌}
+use mathlib.Core.Path.{◌≡◌, ap, ◌∙◌}
 use mathlib.Core.Bool.{true, false}
 use mathlib.Core.List.{List}
-use mathlib.Core.Option.{Option, some, none}
+use mathlib.Core.Option.{some, none}
 use Prim.Native.Nat.{ℕ}
 use lib.Ieee.{Float, le}
 use Rattle.openrdson_core.specs.Maps.{in_map}
 use Rattle.openrdson_core.specs.Layout.{is_marker}
 use Rattle.openrdson_core.specs.Tech.{material_of}
 use Rattle.openrdson_core.specs.declared.solids.Material.{Material}
-use Rattle.geometry.specs.Ranges.{Range, stack_range}
-use Rattle.geometry.specs.Plans.{Blocks, with_range, plan_of_physical, with_physical, plan_of_name}
-use Rattle.geometry.specs.declared.plans.Plan.{Plan}
+use Rattle.geometry.specs.Ranges.{stack_range}
+use Rattle.geometry.specs.Plans.{Blocks, with_range, plan_of_physical, plan_of_name}
 use Rattle.geometry.specs.declared.plans.Plan.TheVariants.{Skipped, Between}
 
 module _ (b : Blocks) (physical : List ℕ) where

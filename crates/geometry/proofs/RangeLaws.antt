@@ -1,15 +1,14 @@
 -- The range of heights, from what the lookups answer. Assumes nothing.
-use mathlib.Core.Path.{◌≡◌, refl, sym, ap, ◌∙◌}
+use mathlib.Core.Path.{◌≡◌, ap, ◌∙◌}
 use mathlib.Core.List.{List}
 use mathlib.Core.Option.{Option, map}
 use Prim.Native.Nat.{ℕ}
-use lib.Ieee.{Float}
 use Rattle.lists.specs.Answer.{given}
 use Rattle.lists.proofs.Answers.{given_same}
 use Rattle.openrdson_core.specs.Blocks.{entry_of}
 use Rattle.openrdson_core.specs.Tech.{StackFigures, figures_of, ViaNames, via_names_of}
 use Rattle.openrdson_core.specs.declared.blocks.Cell.TheVariants.{Figures, Ends}
-use Rattle.geometry.specs.Ranges.{Range, from_to, figures_range, first_range, diffusion_range, layer_range, end_range, between, range_by, stack_range}
+use Rattle.geometry.specs.Ranges.{Range, figures_range, first_range, diffusion_range, layer_range, between, range_by, stack_range}
 
 module _ (d name : List ℕ) where
   pub diffusion_is : (o : Option StackFigures) → given o ≡ given (map figures_of (entry_of Figures d name)) → figures_range o ≡ diffusion_range d name

@@ -17,7 +17,7 @@ use Rattle.binary64.specs.Constants.{zero64, two64}
 use Rattle.openrdson_core.specs.Points.{point_at, point_in, points_in, ring_fault, of_ring}
 use Rattle.openrdson_core.specs.Area.{cross, shoelace, signed_area, area}
 use Rattle.openrdson_core.specs.declared.points.Point.{Point}
-use Rattle.openrdson_core.proofs.Areas.{Summing, summing_start, summing_more, summing_end, summing_closed}
+use Rattle.openrdson_core.proofs.Areas.{Summing, summing_more, summing_end, summing_closed}
 
 both_hold : {f g : Bool} → f ≡ true → g ≡ true → (f && g) ≡ true
 both_hold e h = rw (e, h)

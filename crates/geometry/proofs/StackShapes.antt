@@ -7,7 +7,7 @@ use mathlib.Core.Option.{or_else}
 use lib.IntN.{pos}
 use lib.ListN.{replicate}
 use lib.Ieee.{Float, fin, add, sub, mul, lt, eq, le, of_bits, round}
-use Rattle.lists.specs.Answer.{Answer, refused, given, fold_answer}
+use Rattle.lists.specs.Answer.{refused, given, fold_answer}
 use Rattle.lists.specs.Lists.{runs, elems, first, fold_below, all_below, any_below}
 use Rattle.binary64.specs.Numbers.{at_most, abs}
 use Rattle.openrdson_core.specs.Bytes.{same, zeros, name_length, name_ok, little, starts_with, contains}

@@ -9,7 +9,6 @@ use lib.ListN.{length, get_or, take, drop}
 use lib.Ieee.{Float}
 use borrow.Author.Tests.{eqb-true, eq-eqb, leb-true, leb-false, le-leb, lt-leb}
 use Rattle.lists.specs.Answer.{Answer, refused, given, unless, and_then, map_answer}
-use Rattle.lists.specs.Lists.{part}
 use Rattle.lists.proofs.Answers.{passed, unless_then}
 use Rattle.lists.proofs.Parts.{part_lent}
 use Rattle.lists.proofs.Folds.{steps_start, steps_more, steps_stop, steps_end}

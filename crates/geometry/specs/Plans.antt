@@ -1,5 +1,5 @@
 -- What stacking makes of a layer: outcomes 2 to 5, tested in this order, or two heights and a material.
-use Rattle.std.specs.Prelude.{ℕ, ◌≡◌, Bool, true, cond, List, ℤ, Float}
+use Rattle.std.specs.Prelude.{ℕ, ◌≡◌, true, cond, List, ℤ}
 use Rattle.std.proofs.Math.Option.{Option, some, none, or_else}
 use Rattle.std.specs.Float.Ieee.{le}
 use Rattle.openrdson_core.specs.Bytes.{unpad}

@@ -1,5 +1,5 @@
 -- Stacking a layout: the regions of its polygons, and one outcome a polygon.
-use Rattle.std.specs.Prelude.{ℕ, ◌+◌, ◌≤◌, ◌≡◌, Bool, true, ◌&&◌, List, [], ◌∷◌, leb, length, get_or, Float}
+use Rattle.std.specs.Prelude.{ℕ, ◌+◌, ◌≡◌, List, [], ◌∷◌, leb, length, get_or, Float}
 use Rattle.lists.specs.Answer.{Answer, refused, given, unless, and_then, map_answer, left}
 use Rattle.lists.specs.Lists.{put, runs, elems, fold_below}
 use Rattle.openrdson_core.specs.Refusals.{refusal_number}

@@ -1,5 +1,5 @@
 -- How the program keeps the plans of the rows of a layer-name block: four lists.
-use Rattle.std.specs.Prelude.{ℕ, ◌≤◌, Bool, cond, List, eqb, ℤ, length, get_or, Float}
+use Rattle.std.specs.Prelude.{ℕ, ◌≤◌, cond, List, eqb, ℤ, length, get_or, Float}
 use Rattle.std.proofs.Math.Option.{Option, some, none}
 use Rattle.lists.specs.Lists.{put, elems}
 use Rattle.binary64.specs.Numbers.{at}

@@ -3,7 +3,6 @@ use mathlib.Core.Path.{◌≡◌, refl, ap, subst, ◌∙◌}
 use mathlib.Core.Bool.{Bool, true, false, ◌&&◌}
 use Prim.Native.Nat.{ℕ, ◌+◌, ◌*◌, ◌≤◌}
 use native.Mathlib.Nat.{mul-le-mul}
-use native.Mathlib.Omega.{arith}
 use mir.Val.{Fits}
 use mir.Syntax.{w64}
 use mir.Facts.{Fits-le, Fits-lit}
@@ -19,7 +18,7 @@ use Rattle.binary64.specs.Constants.{zero64}
 use Rattle.openrdson_core.specs.Mesh.{Mesh, parallel_lengths, parallel, within_lengths, within, fits}
 use Rattle.openrdson_core.specs.declared.mesh.Counts.{Counts}
 use Rattle.openrdson_core.specs.declared.bounds.Bbox.{Bbox}
-use Rattle.openrdson_core.proofs.MeshLaws.{Lengths, equal_lengths, counts_in, room_for}
+use Rattle.openrdson_core.proofs.MeshLaws.{equal_lengths, counts_in, room_for}
 use Rattle.meshing.specs.declared.cells.MeshConfig.{MeshConfig}
 use Rattle.meshing.specs.Cells.{cells_for}
 use Rattle.meshing.specs.Grid.{grid_nodes, grid_cells}

@@ -4,17 +4,16 @@ use mathlib.Core.List.{List}
 use Prim.Native.Nat.{ℕ, ◌+◌, ◌*◌}
 use lib.ListN.{length}
 use lib.Ieee.{Float}
-use Rattle.lists.specs.Answer.{Answer, refused, given, map_answer}
+use Rattle.lists.specs.Answer.{Answer, refused, given}
 use Rattle.lists.specs.Lists.{put, elems}
 use Rattle.lists.proofs.Fills.{elems_length}
-use Rattle.openrdson_core.specs.Refusals.{refusal_number}
 use Rattle.openrdson_core.specs.Mesh.{Mesh, the_mesh, the_counts}
 use Rattle.openrdson_core.specs.declared.mesh.Counts.{Counts}
 use Rattle.openrdson_core.specs.declared.bounds.Bbox.{Bbox}
 use Rattle.meshing.specs.Cells.{axis_at}
 use Rattle.meshing.specs.Grid.{grid, grid_nodes, grid_cells, hex_places}
 use Rattle.meshing.specs.Added.{Part, meshed_answer, Adds}
-use Rattle.meshing.specs.Boxes.{BoxCells, the_cells, box_part, box_of_cells}
+use Rattle.meshing.specs.Boxes.{the_cells, box_part, box_of_cells}
 use Rattle.meshing.specs.declared.boxes.Meshed.{Meshed}
 use Rattle.meshing.specs.declared.boxes.Meshed.TheVariants.{Done}
 use Rattle.meshing.proofs.GridLaws.{grid_length}

@@ -1,17 +1,17 @@
 -- Clipping, turn by turn: a triangle written, a place taken out of the walk, and the loop over the ears. Assumes nothing.
 use mathlib.Core.Path.{◌≡◌, refl, sym, ap, ◌∙◌}
 use mathlib.Core.Bool.{Bool}
-use mathlib.Core.List.{List, [], ◌∷◌, ◌++◌, append-nil}
+use mathlib.Core.List.{List, [], ◌∷◌, ◌++◌}
 use mathlib.Core.Option.{none, some}
-use Prim.Native.Nat.{ℕ, zero, suc, ◌+◌, ◌-◌, ◌*◌, ◌≤◌, ◌<◌}
+use Prim.Native.Nat.{ℕ, suc, ◌+◌, ◌-◌, ◌*◌, ◌≤◌, ◌<◌}
 use native.Mathlib.Nat.{add-zero}
-use native.Mathlib.Numerals.{add-one, add-two}
+use native.Mathlib.Numerals.{add-one}
 use native.Mathlib.Omega.{arith}
-use lib.ListN.{length, get_or, take, drop, set, length-append, length-take, length-drop, take-append-drop, drop_of_length-le, get_or-append}
-use lib.Seq.{length-take-le, take_at, take-suc, take-length, drop-cons, drop_at, drop-drop, append_snoc, set_at, get_or-take, get_or-drop}
+use lib.ListN.{length, get_or, take, drop, set, length-append, length-take, length-drop, take-append-drop, get_or-append}
+use lib.Seq.{length-take-le, take_at, take-suc, drop-cons, drop_at, append_snoc, set_at, get_or-take, get_or-drop}
 use Rattle.lists.specs.Answer.{Answer, refused, given, map_answer}
 use Rattle.lists.specs.Lists.{Below, first, next_of, prev_of, put}
-use Rattle.lists.proofs.Fills.{put_sets, put_length}
+use Rattle.lists.proofs.Fills.{put_length}
 use Rattle.lists.proofs.Places.{below_at, below_take, below_drop, below_append}
 use Rattle.lists.proofs.Parts.{rest_back_long, rest_back_later}
 use Rattle.lists.proofs.Searches.{first_below}

@@ -22,8 +22,8 @@ use Rattle.openrdson_core.specs.Solids.{points_fault, heights_in, prism_fault}
 use Rattle.openrdson_core.specs.declared.mesh.Counts.{Counts}
 use Rattle.openrdson_core.specs.declared.solids.Solid.{Solid}
 use Rattle.openrdson_core.specs.declared.solids.Solid.TheVariants.{Box, Prism}
-use Rattle.openrdson_core.proofs.MeshLaws.{Lengths, equal_lengths, room_for}
-use Rattle.openrdson_core.proofs.Rings.{Sized, fine_ring, Parted, parted}
+use Rattle.openrdson_core.proofs.MeshLaws.{equal_lengths, room_for}
+use Rattle.openrdson_core.proofs.Rings.{fine_ring, parted}
 use Rattle.meshing.specs.declared.boxes.Meshed.{Meshed}
 use Rattle.meshing.specs.declared.boxes.Meshed.TheVariants.{Done}
 use Rattle.meshing.specs.declared.cells.MeshConfig.{MeshConfig}

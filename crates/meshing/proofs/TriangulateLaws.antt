@@ -1,15 +1,15 @@
 -- Triangulating: the cleaned ring is a ring, each refusal, and demand 3 of what is written. Assumes nothing.
 use mathlib.Core.Path.{◌≡◌, refl, sym, ap, subst, ◌∙◌}
-use mathlib.Core.Bool.{Bool, true, false, not}
-use mathlib.Core.List.{List, [], ◌∷◌, ◌++◌}
-use Prim.Native.Nat.{ℕ, zero, suc, ◌+◌, ◌*◌, ◌-◌, ◌≤◌, ◌<◌}
+use mathlib.Core.Bool.{true, not}
+use mathlib.Core.List.{List, [], ◌∷◌}
+use Prim.Native.Nat.{ℕ, zero, suc, ◌*◌, ◌≤◌, ◌<◌}
 use native.Mathlib.Omega.{arith}
 use lib.Dec.{eqb, leb}
-use lib.ListN.{length, get_or, take, length-append}
+use lib.ListN.{length, get_or, take}
 use lib.Ieee.{Float, nan, lt}
 use borrow.Author.Tests.{le-leb, lt-leb, eq-eqb, ne_eqb}
-use Rattle.lists.specs.Answer.{Answer, refused, given, unless, and_then, map_answer}
-use Rattle.lists.specs.Lists.{put, gather, Below, all_below}
+use Rattle.lists.specs.Answer.{Answer, refused, given, unless, map_answer}
+use Rattle.lists.specs.Lists.{put, Below}
 use Rattle.lists.proofs.Answers.{refused_given, passed, passed_then, given_same}
 use Rattle.lists.proofs.Fills.{put_start}
 use Rattle.lists.proofs.Scans.{all_at, all_from}
@@ -17,7 +17,6 @@ use Rattle.lists.proofs.Places.{gather_length, below_at}
 use Rattle.binary64.specs.Constants.{zero64}
 use Rattle.openrdson_core.specs.Area.{signed_area}
 use Rattle.openrdson_core.specs.Points.{point_at, point_in, points_in, ring_size, ring_fault, of_ring}
-use Rattle.openrdson_core.proofs.Rings.{Sized, fine_ring}
 use Rattle.meshing.specs.Ring.{kept, gathered}
 use Rattle.meshing.specs.Triangles.{Triangle, tri, corners, triples, walk, Triangulation}
 use Rattle.meshing.specs.Clipping.{clip}

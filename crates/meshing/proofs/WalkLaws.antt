@@ -5,7 +5,7 @@ use mathlib.Core.List.{List, [], ◌∷◌, reverse, reverse-append}
 use Prim.Native.Nat.{ℕ, zero, suc, ◌-◌, ◌≤◌, ◌<◌}
 use native.Mathlib.Nat.{le_refl}
 use native.Mathlib.Omega.{arith}
-use lib.ListN.{length, take}
+use lib.ListN.{take}
 use Rattle.lists.specs.Lists.{put, runs, elems, Below}
 use Rattle.lists.proofs.Fills.{put_start, elems_suc, elems_same, elems_front, elems_length}
 use Rattle.lists.proofs.Places.{below_more}

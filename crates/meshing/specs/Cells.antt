@@ -1,5 +1,5 @@
 -- Cells and coordinates on an axis, each operation rounded once in the Rust's order.
-use Rattle.std.specs.Prelude.{ℕ, Bool, ◌&&◌, cond, eqb, leb, pos, Float}
+use Rattle.std.specs.Prelude.{ℕ, ◌&&◌, cond, eqb, leb, pos, Float}
 use Rattle.std.specs.Float.{binary64}
 use Rattle.std.specs.Float.Ieee.{of_bits, of_int, lt}
 use Rattle.lists.specs.Answer.{Answer, given, unless, and_then}

@@ -5,7 +5,6 @@ use Rattle.lists.specs.Lists.{put, part, fold_below, all_of}
 use Rattle.binary64.specs.Numbers.{at}
 use Rattle.openrdson_core.specs.Mesh.{Mesh, parallel, within}
 use Rattle.openrdson_core.specs.declared.mesh.Counts.{Counts}
-use Rattle.openrdson_core.specs.declared.solids.SolidRegion.{SolidRegion}
 use Rattle.geometry.specs.Regions.{Regions, even_regions, region_at}
 use Rattle.meshing.specs.declared.boxes.Meshed.{Meshed}
 use Rattle.meshing.specs.declared.cells.MeshConfig.{MeshConfig}

@@ -13,7 +13,7 @@ use Rattle.meshing.specs.declared.scanline.Bands.TheVariants as bands
 use Rattle.meshing.specs.declared.scanline.Scanned.{Scanned}
 use Rattle.meshing.specs.declared.scanline.Scanned.TheVariants as scanned
 use Rattle.meshing.specs.Added.{Part}
-use Rattle.meshing.specs.Levels.{Band, the_band, levels, bands_of, middle}
+use Rattle.meshing.specs.Levels.{Band, levels, bands_of, middle}
 use Rattle.meshing.specs.Crossings.{crossings, crosses_in}
 use Rattle.meshing.specs.Quads.{quad_in, band_quads, quads_of}
 

@@ -69,13 +69,8 @@ fn mesh_tris(
     places: &mut [u32],
     regions: &mut [u32],
 ) -> Meshed
-<<<<<<< HEAD
-    requires ring { (length ys.now ≡ length xs.now) × (length xs.now ≤ 512) × (cornersOf (triples corners.now) ≡ corners.now) × Below (length xs.now) corners.now × (length corners.now ≤ 1530) }
-    requires lists { (parallel (the_mesh nx.old ny.old nz.old kinds.old places.old regions.old) ≡ true) × (within counts (the_mesh nx.old ny.old nz.old kinds.old places.old regions.old) ≡ true) }
-=======
     requires ring { (length ys.now ≡ length xs.now) × (length xs.now ≤ 512) × (corners_of (triples corners.now) ≡ corners.now) × Below (length xs.now) corners.now × (length corners.now ≤ 1530) }
     requires lists { (parallel (the_mesh nx.old ny.old nz.old kinds.old places.old regions.old) ≡ true) × (within counts (the_mesh nx.old ny.old nz.old kinds.old places.old regions.old) ≡ true) }
->>>>>>> ffdc3914354e397e001578475a7610538f5bed06
     ensures { Adds (fit_part counts (the_mesh nx.old ny.old nz.old kinds.old places.old regions.old) (spec.triangles_part counts.nodes z_bottom z_top xs.now ys.now (triples corners.now))) counts region (the_mesh nx.old ny.old nz.old kinds.old places.old regions.old) (the_mesh nx.new ny.new nz.new kinds.new places.new regions.new) result }
 {
     let n = xs.len();

@@ -1,5 +1,4 @@
 -- `fill_plans` meets its contract: a turn writes the plan of row i in each list. Assumes nothing.
-use Prim.Native.Nat.{◌-◌}
 use mathlib.Core.Path.{◌≡◌, sym, ap, ◌∙◌}
 use mathlib.Core.Bool.{true}
 use native.Mathlib.Omega.{arith}

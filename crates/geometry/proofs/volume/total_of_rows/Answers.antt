@@ -1,5 +1,4 @@
 -- `total_of_rows` meets its contract: the sum so far is the total of the rows so far. Assumes nothing.
-use Prim.Native.Nat.{◌-◌}
 use mathlib.Core.Path.{sym, ap, ◌∙◌}
 use native.Mathlib.Omega.{arith}
 use lib.ListN.{length}

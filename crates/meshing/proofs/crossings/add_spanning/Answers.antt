@@ -1,5 +1,5 @@
 -- `add_spanning` meets its contract: its loop is `Added`. Assumes nothing.
-use Prim.Native.Nat.{◌<◌, ◌-◌, ◌+◌}
+use Prim.Native.Nat.{◌<◌, ◌+◌}
 use mathlib.Core.Path.{◌≡◌, refl, sym, ◌∙◌}
 use native.Mathlib.Omega.{arith}
 use mathlib.Core.Bool.{true, xor}
@@ -51,8 +51,12 @@ loop-e-preserved c = let a = c.args in
     elim c.if-e-n.branch [ then-e-n w ↦ w.end_low-is ∙ sym (ends_inside ys y v.e w.if-e-n.true) | else-e-n w ↦ w.end_low-is ∙ sym (ends_last ys y v.e c.loop-e-test.true w.if-e-n.false) ] in
     let is = new_is ys y v.e a.below (v.invariant.1 c.loop-e-test.true) ends in
     let low : v.e + 1 < length ys → c.if-e-n.end_low ≡ le (at ys (v.e + 1)) y = λ h. ends ∙ ends_inside ys y v.e h in
-    elim c.if-is_low-end_low.branch [ then-is_low-end_low+then-not-spans w ↦ let new : new_at ys a.below y v.e ≡ true = rw (is, w.if-is_low-end_low.true, ← w.spans.ensures) w.if-not-spans.true-raw in
-    (omega arith, low, rw (w.edges-is, w.count-is) (add_keeps _ _ _ _ v.invariant.2 new (add_room _ _ _ _ v.invariant.2 (length ys) (omega arith) c.requires new))) | then-is_low-end_low+else-not-spans w ↦ (omega arith, low, rw (w.edges-is, w.count-is) (add_drops _ _ _ _ v.invariant.2 (rw (is, w.if-is_low-end_low.true, ← w.spans.ensures) w.if-not-spans.false-raw))) | else-is_low-end_low w ↦ (omega arith, low, rw (w.edges-is, w.count-is) (add_drops _ _ _ _ v.invariant.2 (rw (is, w.if-is_low-end_low.false)))) ]
+    elim c.if-is_low-end_low.branch [
+      | then-is_low-end_low+then-not-spans w ↦ let new : new_at ys a.below y v.e ≡ true = rw (is, w.if-is_low-end_low.true, ← w.spans.ensures) w.if-not-spans.true-raw in
+          (omega arith, low, rw (w.edges-is, w.count-is) (add_keeps _ _ _ _ v.invariant.2 new (add_room _ _ _ _ v.invariant.2 (length ys) (omega arith) c.requires new)))
+      | then-is_low-end_low+else-not-spans w ↦ (omega arith, low, rw (w.edges-is, w.count-is) (add_drops _ _ _ _ v.invariant.2 (rw (is, w.if-is_low-end_low.true, ← w.spans.ensures) w.if-not-spans.false-raw)))
+      | else-is_low-end_low w ↦ (omega arith, low, rw (w.edges-is, w.count-is) (add_drops _ _ _ _ v.invariant.2 (rw (is, w.if-is_low-end_low.false))))
+    ]
 
 pub returns : goal.returns
 returns c = let v = c.loop-e in

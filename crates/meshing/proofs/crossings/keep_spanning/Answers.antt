@@ -1,5 +1,4 @@
 -- `keep_spanning` meets its contract: its loop is `Sifted`. Assumes nothing.
-use Prim.Native.Nat.{◌-◌}
 use mathlib.Core.Path.{◌≡◌, sym, ◌∙◌}
 use native.Mathlib.Omega.{arith}
 use lib.ListN.{take}

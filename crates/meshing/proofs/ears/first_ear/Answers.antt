@@ -1,5 +1,4 @@
 -- `first_ear` meets its contract: the outer loop searches, the inner one scans, and both end at the first ear. Assumes nothing.
-use Prim.Native.Nat.{◌-◌}
 use native.Mathlib.Omega.{arith}
 use mathlib.Core.Path.{sym}
 use lib.ListN.{length, get_or}
@@ -87,8 +86,11 @@ search-preserved c = let a = c.args in (
 pub returns-then-i-m : goal.returns-then-i-m
 returns-then-i-m c = let a = c.args in
     sym (search_found (is_ear a.xs.now a.ys.now a.walk.now) (length a.walk.now) c.search.i c.search.invariant.1 c.if-i-m.true
-    (elim c.search-test.branch [ else-search-test w ↦ absurd (omega (arith, w.search-test.false, c.if-i-m.true)) | then-search-test+then-turns_left+then-j-m w ↦ ear_yes a.xs.now a.ys.now a.walk.now c.search.i w.prev_place.result w.next_place.result w.prev_place.ensures.0 w.next_place.ensures.0 w.point_at.result w.point_at-in-search.result w.point_at-in-search-2.result w.point_at.ensures w.point_at-in-search.ensures w.point_at-in-search-2.ensures w.turns_left.result w.turns_left.ensures
-    w.if-turns_left.true w.loop-j.j w.if-j-m.true w.loop-j.invariant.1 ]))
+    (elim c.search-test.branch [
+      | else-search-test w ↦ absurd (omega (arith, w.search-test.false, c.if-i-m.true))
+      | then-search-test+then-turns_left+then-j-m w ↦ ear_yes a.xs.now a.ys.now a.walk.now c.search.i w.prev_place.result w.next_place.result w.prev_place.ensures.0 w.next_place.ensures.0 w.point_at.result w.point_at-in-search.result w.point_at-in-search-2.result w.point_at.ensures w.point_at-in-search.ensures w.point_at-in-search-2.ensures w.turns_left.result w.turns_left.ensures
+          w.if-turns_left.true w.loop-j.j w.if-j-m.true w.loop-j.invariant.1
+    ]))
 
 pub returns : goal.returns
 returns c = let a = c.args in

@@ -1,5 +1,5 @@
 -- `drop_close` meets its contract: the heights kept so far, and those that are kept of what is left, are all that are kept. Assumes nothing.
-use Prim.Native.Nat.{◌≤◌, ◌-◌, ◌+◌}
+use Prim.Native.Nat.{◌≤◌, ◌+◌}
 use native.Mathlib.Omega.{arith}
 use borrow.Author.Tests.{not-true, not-false}
 use mathlib.Core.Path.{refl, ap, ◌∙◌}
@@ -23,17 +23,20 @@ loop-i-preserved c = let a = c.args in
     let v = c.loop-i in
     let all = apart (take a.m a.l.now) in
     let room : a.m ≤ length v.l = omega (arith, c.requires) in
-    elim c.if-not-abs.branch [ then-not-abs w ↦ (
-      ap length w.l-is ∙ length-set v.l v.count _ ∙ v.invariant.0,
-      omega (arith, w.count-is),
-      omega arith,
-      apart_as all _ a.m _ (v.i + 1) _ (apart_far all v.l a.m v.count v.i v.last v.invariant.3 c.loop-i-test.true room v.invariant.1 c.abs.result c.abs.ensures (not-true _ w.if-not-abs.true-raw)) w.l-is w.last-is w.count-is,
-    ) | else-not-abs w ↦ (
-      ap length w.l-is ∙ v.invariant.0,
-      omega (arith, w.count-is),
-      omega arith,
-      apart_as all _ a.m _ (v.i + 1) _ (apart_near all v.l a.m v.count v.i v.last v.invariant.3 c.loop-i-test.true room c.abs.result c.abs.ensures (not-false _ w.if-not-abs.false-raw)) w.l-is w.last-is w.count-is,
-    ) ]
+    elim c.if-not-abs.branch [
+      | then-not-abs w ↦ (
+        ap length w.l-is ∙ length-set v.l v.count _ ∙ v.invariant.0,
+        omega (arith, w.count-is),
+        omega arith,
+        apart_as all _ a.m _ (v.i + 1) _ (apart_far all v.l a.m v.count v.i v.last v.invariant.3 c.loop-i-test.true room v.invariant.1 c.abs.result c.abs.ensures (not-true _ w.if-not-abs.true-raw)) w.l-is w.last-is w.count-is,
+      )
+      | else-not-abs w ↦ (
+        ap length w.l-is ∙ v.invariant.0,
+        omega (arith, w.count-is),
+        omega arith,
+        apart_as all _ a.m _ (v.i + 1) _ (apart_near all v.l a.m v.count v.i v.last v.invariant.3 c.loop-i-test.true room c.abs.result c.abs.ensures (not-false _ w.if-not-abs.false-raw)) w.l-is w.last-is w.count-is,
+      )
+    ]
 
 pub returns : goal.returns
 returns c = (apart_end (apart (take c.args.m c.args.l.now)) c.loop-i.l c.args.m c.loop-i.count c.loop-i.i c.loop-i.last c.loop-i.invariant.3 (omega arith) (omega arith), omega arith)

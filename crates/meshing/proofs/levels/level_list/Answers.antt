@@ -1,5 +1,4 @@
 -- `level_list` meets its contract: the heights put in so far, with those that are left, come to the levels of all. Assumes nothing.
-use Prim.Native.Nat.{◌-◌}
 use native.Mathlib.Omega.{arith}
 use mathlib.Core.Path.{refl, ◌∙◌}
 use lib.ListN.{take}

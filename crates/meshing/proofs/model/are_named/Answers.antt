@@ -1,5 +1,4 @@
 -- `are_named` meets its contract: a scan that stops at the first override that names no material. Assumes nothing.
-use Prim.Native.Nat.{◌-◌}
 use mathlib.Core.Path.{◌≡◌, refl, sym, ap, ◌∙◌}
 use native.Mathlib.Omega.{arith}
 use lib.ListN.{length, take}

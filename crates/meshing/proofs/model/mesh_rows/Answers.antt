@@ -1,5 +1,4 @@
 -- `mesh_rows` meets its contract: its loop is `Running`. Assumes nothing.
-use Prim.Native.Nat.{◌-◌}
 use mathlib.Core.Path.{◌≡◌, refl, ◌∙◌, subst}
 use native.Mathlib.Omega.{arith}
 use lib.ListN.{length, length-set}

@@ -1,5 +1,5 @@
 -- `write_prisms` meets its contract: each turn writes the eight places of the prism on a triangle. Assumes nothing.
-use Prim.Native.Nat.{◌+◌, ◌-◌}
+use Prim.Native.Nat.{◌+◌}
 use mathlib.Core.Path.{ap, ◌∙◌}
 use native.Mathlib.Omega.{arith}
 use lib.ListN.{get_or}

@@ -1,5 +1,4 @@
 -- `largest_size` meets its contract: the loop takes on the larger of two. Assumes nothing.
-use Prim.Native.Nat.{◌-◌}
 use native.Mathlib.Omega.{arith}
 use Rattle.lists.proofs.Folds.{fold_start}
 use Rattle.meshing.proofs.RectLaws.{size_more, size_end}

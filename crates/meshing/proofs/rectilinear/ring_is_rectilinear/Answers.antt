@@ -1,5 +1,4 @@
 -- `ring_is_rectilinear` meets its contract: the loop goes on while an edge is straight. Assumes nothing.
-use Prim.Native.Nat.{◌-◌}
 use native.Mathlib.Omega.{arith}
 use Rattle.lists.proofs.Scans.{all_start}
 use Rattle.meshing.proofs.RectLaws.{is_straight, rect_few, tolerance_is, rect_more, rect_slanted, rect_end}

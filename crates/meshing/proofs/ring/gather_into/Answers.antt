@@ -1,5 +1,5 @@
 -- `gather_into` meets its contract: the loop fills the start of `out` with the numbers at the places passed. Assumes nothing.
-use Prim.Native.Nat.{◌-◌, ◌<◌}
+use Prim.Native.Nat.{◌<◌}
 use native.Mathlib.Omega.{arith}
 use borrow.Author.Rules.{scaled_Fits}
 use mathlib.Core.Path.{refl, ap, ◌∙◌}

@@ -1,5 +1,4 @@
 -- `is_clean` meets its contract: the loop goes on while no point is close to the one before it. Assumes nothing.
-use Prim.Native.Nat.{◌-◌}
 use mathlib.Core.Bool.{true≢false}
 use mathlib.Core.Path.{sym}
 use native.Mathlib.Omega.{arith}

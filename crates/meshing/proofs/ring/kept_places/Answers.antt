@@ -1,5 +1,4 @@
 -- `kept_places` meets its contract: its loop is `Keeping`, and at its end the last place is dropped if it is close to the first. Assumes nothing.
-use Prim.Native.Nat.{◌-◌}
 use native.Mathlib.Omega.{arith}
 use borrow.Author.Tests.{not-true, not-false}
 use mathlib.Core.Path.{refl, sym, ap, ◌∙◌}
@@ -25,17 +24,20 @@ bounds-places-count c = omega (arith, length-set c.args.places.now 0 0, c.loop-i
 pub loop-i-preserved : goal.loop-i-preserved
 loop-i-preserved c = let a = c.args in
     let v = c.loop-i in
-    elim c.if-not-is_close.branch [ then-not-is_close w ↦ (
-      omega arith,
-      v.invariant.1,
-      ap length w.places-is ∙ length-set v.places v.count v.i ∙ v.invariant.2,
-      keeping_as a.xs.now a.ys.now (keeping_far a.xs.now a.ys.now v.invariant.3 c.new-point.result c.new-point.ensures (sym c.is_close.ensures ∙ not-true _ w.if-not-is_close.true-raw) (omega (arith, length-set a.places.now 0 0, v.invariant.2))) w.places-is w.last-is w.count-is,
-    ) | else-not-is_close w ↦ (
-      omega arith,
-      v.invariant.1,
-      ap length w.places-is ∙ v.invariant.2,
-      keeping_as a.xs.now a.ys.now (keeping_close a.xs.now a.ys.now v.invariant.3 c.new-point.result c.new-point.ensures (sym c.is_close.ensures ∙ not-false _ w.if-not-is_close.false-raw)) w.places-is w.last-is w.count-is,
-    ) ]
+    elim c.if-not-is_close.branch [
+      | then-not-is_close w ↦ (
+        omega arith,
+        v.invariant.1,
+        ap length w.places-is ∙ length-set v.places v.count v.i ∙ v.invariant.2,
+        keeping_as a.xs.now a.ys.now (keeping_far a.xs.now a.ys.now v.invariant.3 c.new-point.result c.new-point.ensures (sym c.is_close.ensures ∙ not-true _ w.if-not-is_close.true-raw) (omega (arith, length-set a.places.now 0 0, v.invariant.2))) w.places-is w.last-is w.count-is,
+      )
+      | else-not-is_close w ↦ (
+        omega arith,
+        v.invariant.1,
+        ap length w.places-is ∙ v.invariant.2,
+        keeping_as a.xs.now a.ys.now (keeping_close a.xs.now a.ys.now v.invariant.3 c.new-point.result c.new-point.ensures (sym c.is_close.ensures ∙ not-false _ w.if-not-is_close.false-raw)) w.places-is w.last-is w.count-is,
+      )
+    ]
 
 pub returns-then-count-le1 : goal.returns-then-count-le1
 returns-then-count-le1 c = let a = c.args in

@@ -21,11 +21,14 @@ pub slice_bounds-write_scanline-end-in-Quads : goal.slice_bounds-write_scanline-
 slice_bounds-write_scanline-end-in-Quads c = sym (length-take-le c.level_list-m.result c.level_list-m.new.out (omega (arith, c.level_list-m.ensures.1, c.level_list-m.auto.out, c.requires.ring.1)))
 
 pub write_scanline-requires : goal.write_scanline-requires
-write_scanline-requires c = record { worked = (
+write_scanline-requires c = record {
+  worked = (
     record { checked = c.requires.ring.0; few = omega (arith, (length-take-le c.level_list-m.result c.level_list-m.new.out (omega (arith, c.level_list-m.ensures.1, c.level_list-m.auto.out, c.requires.ring.1))), c.level_list-m.ensures.1, (fine_ring c.args.xs.now c.args.ys.now c.requires.ring.0).even, (fine_ring c.args.xs.now c.args.ys.now c.requires.ring.0).short); edges_room = omega (arith, c.requires.ring.2, c.scan_ring-found.auto.edges); at_room = omega (arith, c.requires.ring.3, c.scan_ring-found.auto.at) },
     c.level_list-m.ensures.0,
     sym c.scan_ring-found.ensures ∙ ap scanned_answer c.in-Quads.is,
-  ); lists = c.requires.lists }
+  );
+  lists = c.requires.lists;
+}
 
 pub returns-in-Refused : goal.returns-in-Refused
 returns-in-Refused c = scan_adds c.args.xs.now c.args.ys.now c.args.z_bottom c.args.z_top c.args.counts c.args.region (the_mesh c.args.nx.now c.args.ny.now c.args.nz.now c.args.kinds.now c.args.places.now c.args.regions.now) (sym (ap scanned_answer c.in-Refused.is) ∙ c.scan_ring-found.ensures) refl

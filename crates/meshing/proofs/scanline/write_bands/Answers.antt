@@ -1,5 +1,4 @@
 -- `write_bands` meets its contract: each turn writes the quads of a band, whose edges are found from those of the band before. Assumes nothing.
-use Prim.Native.Nat.{◌-◌}
 use mathlib.Core.Path.{refl, sym, subst, ◌∙◌}
 use native.Mathlib.Omega.{arith}
 use lib.Seq.{length-take-le}

@@ -1,5 +1,4 @@
 -- `write_heights` meets its contract: each turn writes the eight heights of a quad. Assumes nothing.
-use Prim.Native.Nat.{◌-◌}
 use mathlib.Core.Path.{refl}
 use native.Mathlib.Omega.{arith}
 use Rattle.lists.proofs.Fills.{no_runs, one_run, all_runs}

@@ -1,5 +1,4 @@
 -- `write_pairs` meets its contract: each turn writes the two prisms of a quad. Assumes nothing.
-use Prim.Native.Nat.{◌-◌}
 use mathlib.Core.Path.{refl, ap, ◌∙◌}
 use native.Mathlib.Omega.{arith}
 use Rattle.lists.specs.Lists.{put}

@@ -1,5 +1,4 @@
 -- `fill_walk` meets its contract: the loop fills the first n places. Assumes nothing.
-use Prim.Native.Nat.{◌-◌}
 use native.Mathlib.Omega.{arith}
 use Rattle.lists.proofs.Fills.{no_elems, one_elem, all_elems}
 use Rattle.meshing.proofs.WalkLaws.{walk_at, walk_filled}

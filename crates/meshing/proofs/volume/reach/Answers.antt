@@ -1,5 +1,5 @@
 -- `reach` meets its contract: two folds in one loop. Assumes nothing.
-use Prim.Native.Nat.{◌<◌, ◌-◌}
+use Prim.Native.Nat.{◌<◌}
 use native.Mathlib.Omega.{arith}
 use borrow.Author.Rules.{scaled_Fits}
 use mathlib.Core.Path.{◌≡◌, ◌∙◌}

@@ -1,5 +1,5 @@
 -- `volume_of_elements` meets its contract: a fold. Assumes nothing.
-use Prim.Native.Nat.{◌-◌, ◌*◌}
+use Prim.Native.Nat.{◌*◌}
 use native.Mathlib.Omega.{arith}
 use lib.ListN.{length}
 use Rattle.lists.proofs.Folds.{fold_start, fold_more, fold_end}

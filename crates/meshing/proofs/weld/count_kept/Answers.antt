@@ -1,5 +1,4 @@
 -- `count_kept` meets its contract: the loop counts the nodes kept of those passed. Assumes nothing.
-use Prim.Native.Nat.{◌-◌}
 use native.Mathlib.Omega.{arith}
 use mathlib.Core.Path.{◌≡◌, sym, ap, ◌∙◌}
 use lib.ListN.{length}

@@ -1,5 +1,4 @@
 -- `find_key` meets its contract: the loop notes the first node with the key. Assumes nothing.
-use Prim.Native.Nat.{◌-◌}
 use mathlib.Core.Path.{sym, ◌∙◌}
 use native.Mathlib.Omega.{arith}
 use Rattle.meshing.proofs.WeldLaws.{has_key, noted_start, goes_on, noted_found, noted_more, noted_end}

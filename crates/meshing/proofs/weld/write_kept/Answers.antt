@@ -1,5 +1,5 @@
 -- `write_kept` meets its contract: the loop writes the nodes kept of those passed, one after the other. Assumes nothing.
-use Prim.Native.Nat.{◌<◌, ◌-◌}
+use Prim.Native.Nat.{◌<◌}
 use native.Mathlib.Omega.{arith}
 use lib.ListN.{length}
 use Rattle.meshing.proofs.WeldLaws.{write_start, write_room, write_more, write_skips, written, kept_most}

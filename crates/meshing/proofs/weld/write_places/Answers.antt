@@ -1,5 +1,4 @@
 -- `write_places` meets its contract: the loop writes place after place, renumbered. Assumes nothing.
-use Prim.Native.Nat.{◌-◌}
 use native.Mathlib.Omega.{arith}
 use mathlib.Core.Path.{ap, ◌∙◌}
 use lib.ListN.{get_or}

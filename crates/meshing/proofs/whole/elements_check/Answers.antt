@@ -1,5 +1,4 @@
 -- `elements_check` meets its contract: it stops at the first element that is not sound, and notes whether all are inside. Assumes nothing.
-use Prim.Native.Nat.{◌-◌}
 use native.Mathlib.Omega.{arith}
 use borrow.Author.Tests.{not-true, not-false}
 use mathlib.Core.Path.{sym, ap, ◌∙◌}

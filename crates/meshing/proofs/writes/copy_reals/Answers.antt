@@ -1,5 +1,4 @@
 -- `copy_reals` meets its contract: the loop fills with the entries of the list. Assumes nothing.
-use Prim.Native.Nat.{◌-◌}
 use mathlib.Core.Path.{refl, ap, ◌∙◌}
 use native.Mathlib.Omega.{arith}
 use lib.Ieee.{nan}

@@ -1,5 +1,4 @@
 -- `copy_words` meets its contract: the loop copies entry after entry. Assumes nothing.
-use Prim.Native.Nat.{◌-◌}
 use native.Mathlib.Omega.{arith}
 use mathlib.Core.Path.{refl, ap, ◌∙◌}
 use lib.ListN.{get_or}

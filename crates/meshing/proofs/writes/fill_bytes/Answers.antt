@@ -1,5 +1,4 @@
 -- `fill_bytes` meets its contract: the loop fills n places. Assumes nothing.
-use Prim.Native.Nat.{◌-◌}
 use mathlib.Core.Path.{refl}
 use native.Mathlib.Omega.{arith}
 use Rattle.lists.proofs.Fills.{no_elems, one_elem, all_elems}
