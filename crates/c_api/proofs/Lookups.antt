@@ -32,6 +32,8 @@ Agree says (answer.given x) (answer.given y) = says x y
 -- an exact answer, said
 pub said_as : {A B : Type 0} (says : A → B → Type 0) (a : answer.Answer A) (b : answer.Answer B) {r : ℕ} {old new : B} → Agree says a b → Given b r old new → GivenAs says a r old new
 said_as says (answer.refused n) (answer.refused m) e g = record { status = g.status ∙ sym e; value = g.value }
+said_as says (answer.refused n) (answer.given y) e g = elim e [ ]
+said_as says (answer.given x) (answer.refused m) w g = elim w [ ]
 said_as says (answer.given x) (answer.given y) w g = record { status = g.status; value = subst (says x) (sym g.value) w }
 
 pub span_stands : (block : List ℕ) (at : Option ℕ) (s : Span) → span_within block s → span_from at s → spec.StandsIf block at (spanned block s) (spec.span_places s)

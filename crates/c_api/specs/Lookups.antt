@@ -1,5 +1,5 @@
 -- What the lookups give back through references: names as places in the lent blocks, and the figures of a stack layer.
-use Rattle.std.specs.Prelude.{ℕ, zero, suc, ◌+◌, ◌≤◌, ◌≡◌, Bool, true, false, List, [], Float, length}
+use Rattle.std.specs.Prelude.{ℕ, zero, suc, ◌+◌, ◌≤◌, ◌≡◌, Bool, true, false, List, Float, length}
 use Rattle.std.proofs.Math.Option.{Option, some, none, map}
 use Rattle.lists.specs.Answer.{Answer, refused, given}
 use Rattle.lists.specs.Lists.{part}

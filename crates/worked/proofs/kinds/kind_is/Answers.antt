@@ -1,0 +1,12 @@
+-- `kind_is` meets its contract: by the cases of the kind. Assumes nothing.
+use mathlib.Core.Path.{sym, ap, ◌∙◌}
+use lib.Dec.{eqb}
+use Rattle.openrdson_core.specs.Answers.{kind_answer}
+use Rattle.worked.specs.Asked.{is_kind}
+use Rattle.worked.proofs.kinds.kind_is.Goals as goal
+
+pub returns-in-Unknown : goal.returns-in-Unknown
+returns-in-Unknown c = ap (λ k. is_kind k c.args.n) (sym (ap kind_answer c.in-Unknown.is) ∙ c.element_type-found.ensures)
+
+pub returns-in-Is : goal.returns-in-Is
+returns-in-Is c = ap (λ m. eqb m c.args.n) c.number.ensures ∙ ap (λ k. is_kind k c.args.n) (sym (ap kind_answer c.in-Is.is) ∙ c.element_type-found.ensures)
