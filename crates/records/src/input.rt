@@ -1,15 +1,34 @@
 // The records of the input, and the counts of their calls.
-ghost use Rattle.std.specs.Prelude.{◌≤◌, length};
+ghost use Rattle.std.specs.Prelude.{◌≡◌, ◌<◌, ◌≤◌, length, take, slice_range, IfOk};
+ghost use Rattle.std.specs.Io.KnownBytes.{Consumes, IsAtEnd};
 
 use crate::words::word;
+use std::io;
+use std::io::Read;
 
 // Reads on from place `from` to place `to` of the buffer, which must have both, and gives where the input ended.
-pub fn read_on(buffer: &mut [u8], from: usize, to: usize) -> usize
+// What stands there is then the input's next bytes. The places before are kept, also where a read fails.
+pub fn read_on<R: Read>(
+    input: &mut R,
+    buffer: &mut [u8],
+    from: usize,
+    to: usize,
+) -> io::Result<usize>
     requires { (from ≤ to) × (to ≤ length buffer.old) }
-    ensures { (from ≤ result) × (result ≤ to) }
+    ensures within { IfOk result (λ end. (from ≤ end) × (end ≤ to)) }
+    ensures bytes { IfOk result (λ end. Consumes (R.remaining input.old) (R.remaining input.new) (slice_range buffer.new from end)) }
+    ensures ended { IfOk result (λ end. end < to → IsAtEnd (R.remaining input.new)) }
+    ensures before { take from buffer.new ≡ take from buffer.old }
 {
-    let more = io::read_full(0, &mut buffer[from..to]);
-    from + more
+    let mut at = from;
+    while at < to {
+        let more = input.read(&mut buffer[at..to])?;
+        if more == 0 {
+            break;
+        }
+        at += more;
+    }
+    Ok(at)
 }
 
 // The first n bytes, or all where there are fewer.

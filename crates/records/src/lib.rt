@@ -1,4 +1,6 @@
 // What the programs that replay records share: the words of a record, its answer, the lists that a call is lent, reading and counting, and the lines of the report.
+#![tactic(auto)]
+
 mod answers;
 mod entries;
 mod input;

@@ -1,6 +1,8 @@
 // The lines of a report.
 ghost use Rattle.std.specs.Prelude.{◌<◌, length};
 
+use std::io;
+
 // The sum of the counts.
 fn total(list: &[u64]) -> u64 {
     let mut sum = 0u64;
@@ -13,28 +15,31 @@ fn total(list: &[u64]) -> u64 {
 }
 
 // How many cases and mismatches there are, on a line.
-fn print_counts(cases: u64, mismatches: u64) {
-    io::print_decimal(1, cases);
-    io::write_all(1, b" cases ");
-    io::print_decimal(1, mismatches);
-    io::write_all(1, b" mismatches\n");
+fn print_counts(rt: &impl Print, cases: u64, mismatches: u64) -> io::Result<()> {
+    println!(rt; "{cases} cases {mismatches} mismatches")
 }
 
 // The line of a call, whose counts must stand at place i.
-pub fn print_call(name: &[u8], cases: &[u64], mismatches: &[u64], i: usize)
+pub fn print_call(
+    rt: &impl Print,
+    name: &[u8],
+    cases: &[u64],
+    mismatches: &[u64],
+    i: usize,
+) -> io::Result<()>
     requires { (i < length cases.now) × (i < length mismatches.now) }
 {
-    io::write_all(1, name);
-    io::write_all(1, b" ");
-    print_counts(cases[i], mismatches[i]);
+    rt.write_all(name)?;
+    rt.write_all(b" ")?;
+    print_counts(rt, cases[i], mismatches[i])
 }
 
 // The lines of the damaged records, whose counts stand at place 0, where there are any, and of all.
-pub fn print_all(cases: &[u64], mismatches: &[u64])
+pub fn print_all(rt: &impl Print, cases: &[u64], mismatches: &[u64]) -> io::Result<()>
     requires { (0 < length cases.now) × (0 < length mismatches.now) }
 {
     if cases[0] > 0 {
-        print_call(b"damaged", cases, mismatches, 0);
+        print_call(rt, b"damaged", cases, mismatches, 0)?;
     }
-    print_counts(total(cases), total(mismatches));
+    print_counts(rt, total(cases), total(mismatches))
 }

@@ -1,8 +1,10 @@
 // The records: the call's number, the lists' lengths, eight parameters, the lists, and the answer.
-ghost use Rattle.std.specs.Prelude.{◌≡◌, ◌≤◌, length};
+ghost use Rattle.std.specs.Prelude.{◌≡◌, ◌≤◌, length, IfOk};
 
 use crate::calls::answer;
 use records::{count_case, first_bytes, floats_at, length_at, place_of, read_on, word};
+use std::io;
+use std::io::Read;
 
 // Whether the call's number is one, and a prism's start and count are below 2^32.
 fn is_of_call(record: &[u8]) -> bool {
@@ -64,32 +66,38 @@ fn replay_record(record: &[u8], cases: &mut [u64], mismatches: &mut [u64]) -> bo
 }
 
 // Reads the next record of the input, and gives how many bytes there were. The first 24 say how many there should be.
-fn read_record(buffer: &mut [u8]) -> usize
+fn read_record(input: &mut impl Read, buffer: &mut [u8]) -> io::Result<usize>
     requires { length buffer.old ≡ 16512 }
-    ensures { result ≤ 16512 }
+    ensures { IfOk result (λ n. n ≤ 16512) }
 {
-    let n = read_on(buffer, 0, 24);
+    let n = read_on(input, buffer, 0, 24)?;
     if n < 24 {
-        return n;
+        return Ok(n);
     }
     let size = size_of(buffer);
-    read_on(buffer, n, size)
+    read_on(input, buffer, n, size)
 }
 
 // Replays the next record of the input. Gives false where there is none or it is damaged.
-fn replay_next(cases: &mut [u64], mismatches: &mut [u64]) -> bool {
+fn replay_next(
+    input: &mut impl Read,
+    cases: &mut [u64],
+    mismatches: &mut [u64],
+) -> io::Result<bool> {
     let mut buffer = [0u8; 16512];
-    let n = read_record(&mut buffer);
+    let n = read_record(input, &mut buffer)?;
     if n == 0 {
-        return false;
+        return Ok(false);
     }
-    replay_record(first_bytes(&buffer, n), cases, mismatches)
+    Ok(replay_record(first_bytes(&buffer, n), cases, mismatches))
 }
 
 // Replays the records of the input: how many of each call there are, and how many of them it answers otherwise.
-pub fn replay(cases: &mut [u64], mismatches: &mut [u64]) {
-    let mut turns = u64::MAX;
-    while turns > 0 && replay_next(cases, mismatches) {
-        turns -= 1;
+pub fn replay(input: &mut impl Read, cases: &mut [u64], mismatches: &mut [u64]) -> io::Result<()> {
+    for _ in 0..u64::MAX {
+        if !replay_next(input, cases, mismatches)? {
+            break;
+        }
     }
+    Ok(())
 }

@@ -1,9 +1,11 @@
 // The records: the call's number, the slices' lengths, the layer's number, the slices, and the answer.
-ghost use Rattle.std.specs.Prelude.{◌≡◌, ◌≤◌, length};
+ghost use Rattle.std.specs.Prelude.{◌≡◌, ◌≤◌, length, IfOk};
 
 use crate::calls::{answer, slices_of};
 use crate::slices::{answer_place, are_lengths_in, size_of};
 use records::{count_case, first_bytes, is_short, place_of, read_on, word};
+use std::io;
+use std::io::Read;
 
 // Whether the layer's number is an i16 for call 17, and 0 for the others.
 fn is_layer_in(record: &[u8], call: u64) -> bool {
@@ -52,32 +54,38 @@ fn replay_record(record: &[u8], cases: &mut [u64], mismatches: &mut [u64]) -> bo
 }
 
 // Reads the next record of the input, and gives how many bytes there were. The first 72 say how many there should be.
-fn read_record(buffer: &mut [u8]) -> usize
+fn read_record(input: &mut impl Read, buffer: &mut [u8]) -> io::Result<usize>
     requires { length buffer.old ≡ 8256 }
-    ensures { result ≤ 8256 }
+    ensures { IfOk result (λ n. n ≤ 8256) }
 {
-    let n = read_on(buffer, 0, 72);
+    let n = read_on(input, buffer, 0, 72)?;
     if n < 72 {
-        return n;
+        return Ok(n);
     }
     let size = size_of(buffer);
-    read_on(buffer, n, size)
+    read_on(input, buffer, n, size)
 }
 
 // Replays the next record of the input. Gives false where there is none or it is damaged.
-fn replay_next(cases: &mut [u64], mismatches: &mut [u64]) -> bool {
+fn replay_next(
+    input: &mut impl Read,
+    cases: &mut [u64],
+    mismatches: &mut [u64],
+) -> io::Result<bool> {
     let mut buffer = [0u8; 8256];
-    let n = read_record(&mut buffer);
+    let n = read_record(input, &mut buffer)?;
     if n == 0 {
-        return false;
+        return Ok(false);
     }
-    replay_record(first_bytes(&buffer, n), cases, mismatches)
+    Ok(replay_record(first_bytes(&buffer, n), cases, mismatches))
 }
 
 // Replays the records of the input: how many of each call there are, and how many of them it answers otherwise.
-pub fn replay(cases: &mut [u64], mismatches: &mut [u64]) {
-    let mut turns = u64::MAX;
-    while turns > 0 && replay_next(cases, mismatches) {
-        turns -= 1;
+pub fn replay(input: &mut impl Read, cases: &mut [u64], mismatches: &mut [u64]) -> io::Result<()> {
+    for _ in 0..u64::MAX {
+        if !replay_next(input, cases, mismatches)? {
+            break;
+        }
     }
+    Ok(())
 }

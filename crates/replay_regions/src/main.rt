@@ -1,4 +1,6 @@
 // Replays recorded answers about regions on the proved calls, and says how many differ, bit for bit.
+#![tactic(auto)]
+
 mod entries;
 mod extrusions;
 mod places;
@@ -7,9 +9,11 @@ mod run;
 mod stacks;
 mod totals;
 
-fn main() {
+use std::io;
+
+fn main(rt: HostRuntime) -> io::Result<()> {
     let mut cases = [0u64; 5];
     let mut mismatches = [0u64; 5];
-    run::replay(&mut cases, &mut mismatches);
-    report::print_report(&cases, &mismatches);
+    run::replay(&mut rt.stdin(), &mut cases, &mut mismatches)?;
+    report::print_report(&rt, &cases, &mismatches)
 }

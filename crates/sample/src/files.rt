@@ -1,28 +1,34 @@
 // The two files that arguments name: the mesh, and the picture of the plan.
 use crate::layout::{POINTS, REGIONS};
 use crate::mesh::{ELEMENTS, NODES, PLACES};
-use crate::out::{close, open};
+use crate::out::{SIZE, close, open};
 use crate::svg::put_plan;
 use crate::vtk::put_mesh;
 use openrdson_core::Counts;
+use std::env::FillError;
+use std::rt::{Env, Files};
+
+// Whether the program was started with an argument i.
+fn has_argument(rt: &impl Env, i: usize) -> bool {
+    !matches!(rt.arg(i, &mut []), Err(FillError::NotPresent))
+}
+
+// Whether it was started with two arguments.
+fn are_two(rt: &impl Env) -> bool {
+    has_argument(rt, 2) && !has_argument(rt, 3)
+}
 
 // Whether the program was started with no file name or with two; a line says if not.
-pub fn are_two_or_none() -> bool {
-    let n = os::arg_count();
-    if n <= 1 {
+pub fn are_two_or_none(rt: &(impl Env + Eprint)) -> bool {
+    if !has_argument(rt, 1) || are_two(rt) {
         return true;
     }
-    if n == 3 {
-        return true;
-    }
-    io::write_all(
-        libc::STDERR_FILENO,
-        b"sample: give two file names, of the VTK and of the SVG, or none\n",
-    );
+    let _ = eprintln!(rt; "sample: give two file names, of the VTK and of the SVG, or none");
     false
 }
 
-fn write_mesh(
+fn write_mesh<R: Env + Eprint + Files>(
+    rt: &R,
     xs: &[f64; NODES],
     ys: &[f64; NODES],
     zs: &[f64; NODES],
@@ -32,15 +38,14 @@ fn write_mesh(
     materials: &[u32; REGIONS],
     mesh: Counts,
 ) {
-    let fd = open(1);
-    if fd < 0 {
+    let Some(mut file) = open(rt, 1) else {
         return;
-    }
-    let mut buffer = io::buffer();
+    };
+    let mut buffer = [0; SIZE];
     let nodes = mesh.nodes;
     let elements = mesh.elements;
     let at = put_mesh(
-        fd,
+        &mut file,
         &mut buffer,
         xs,
         ys,
@@ -52,10 +57,11 @@ fn write_mesh(
         nodes,
         elements,
     );
-    close(1, fd, &buffer, at);
+    close(rt, 1, file, &buffer, at);
 }
 
-fn write_plan(
+fn write_plan<R: Env + Eprint + Files>(
+    rt: &R,
     point_x: &[f64; POINTS],
     point_y: &[f64; POINTS],
     region_kinds: &[u8; REGIONS],
@@ -75,13 +81,12 @@ fn write_plan(
     places: &[u32; PLACES],
     regions: &[u32; ELEMENTS],
 ) {
-    let fd = open(2);
-    if fd < 0 {
+    let Some(mut file) = open(rt, 2) else {
         return;
-    }
-    let mut buffer = io::buffer();
+    };
+    let mut buffer = [0; SIZE];
     let at = put_plan(
-        fd,
+        &mut file,
         &mut buffer,
         point_x,
         point_y,
@@ -102,11 +107,12 @@ fn write_plan(
         places,
         regions,
     );
-    close(2, fd, &buffer, at);
+    close(rt, 2, file, &buffer, at);
 }
 
 // Writes both files, if they are asked for.
-pub fn write_files(
+pub fn write_files<R: Env + Eprint + Files>(
+    rt: &R,
     point_x: &[f64; POINTS],
     point_y: &[f64; POINTS],
     region_kinds: &[u8; REGIONS],
@@ -127,11 +133,12 @@ pub fn write_files(
     regions: &[u32; ELEMENTS],
     mesh: Counts,
 ) {
-    if os::arg_count() != 3 {
+    if !are_two(rt) {
         return;
     }
-    write_mesh(xs, ys, zs, kinds, places, regions, materials, mesh);
+    write_mesh(rt, xs, ys, zs, kinds, places, regions, materials, mesh);
     write_plan(
+        rt,
         point_x,
         point_y,
         region_kinds,

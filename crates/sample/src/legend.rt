@@ -1,5 +1,6 @@
 // What the picture says of its layers: their order, colours and names; and what stands around the plan.
 use crate::out::{SIZE, put, put_decimal, room};
+use std::io::Write;
 
 pub const LAYERS: usize = 6;
 
@@ -132,21 +133,21 @@ fn put_row(buffer: &mut [u8; SIZE], at: usize, row: usize) -> usize {
     put(buffer, at, b"</text></g>\n")
 }
 
-fn put_rows(fd: i32, buffer: &mut [u8; SIZE], at: usize) -> usize {
+fn put_rows(file: &mut impl Write, buffer: &mut [u8; SIZE], at: usize) -> usize {
     let mut at = at;
     let mut row = 0;
     while row <= LAYERS {
         at = put_row(buffer, at, row);
-        at = room(fd, buffer, at);
+        at = room(file, buffer, at);
         row += 1;
     }
     at
 }
 
 // A row for each layer and one for what is refused, and the scale.
-pub fn put_legend(fd: i32, buffer: &mut [u8; SIZE], at: usize) -> usize {
+pub fn put_legend(file: &mut impl Write, buffer: &mut [u8; SIZE], at: usize) -> usize {
     let at = put(buffer, at, b"<text x='9900' y='300'>material</text>\n");
-    let at = put_rows(fd, buffer, at);
+    let at = put_rows(file, buffer, at);
     let at = put(
         buffer,
         at,

@@ -1,4 +1,6 @@
 // Stacks and meshes an embedded power switch, and prints what the calls answer. Two arguments name the files that the mesh and its plan are written to.
+#![tactic(auto)]
+
 mod blocks;
 mod files;
 mod layout;
@@ -16,6 +18,7 @@ use geometry::{Stacked, assemble_stack};
 use layout::{POINTS, POLYGONS, REGIONS};
 use regions::mesh_and_print;
 use report::{print_outcomes, print_refusal};
+use std::io;
 
 // Stacks the switch into region lists.
 fn stack_switch(
@@ -64,9 +67,9 @@ fn stack_switch(
     )
 }
 
-fn main() {
-    if !are_two_or_none() {
-        return;
+fn main(rt: HostRuntime) -> io::Result<()> {
+    if !are_two_or_none(&rt) {
+        return Ok(());
     }
     let mut xs = [0.0; POINTS];
     let mut ys = [0.0; POINTS];
@@ -102,13 +105,13 @@ fn main() {
         &mut outcomes,
     );
     match stacked {
-        Stacked::Refused(why) => print_refusal(b"stacking refused with ", why),
+        Stacked::Refused(why) => print_refusal(&rt, b"stacking refused with ", why),
         Stacked::Regions(_) => {
-            print_outcomes(&outcomes);
+            print_outcomes(&rt, &outcomes)?;
             mesh_and_print(
-                &xs, &ys, &kinds, &min_x, &min_y, &max_x, &max_y, &z_bottom, &z_top, &starts,
+                &rt, &xs, &ys, &kinds, &min_x, &min_y, &max_x, &max_y, &z_bottom, &z_top, &starts,
                 &counts, &materials, &nets, &polygons,
-            );
+            )
         }
     }
 }

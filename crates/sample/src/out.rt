@@ -1,10 +1,18 @@
 // A file that is written in pieces, by way of a lent buffer. A place is where in the buffer the next byte goes; the place past the last says
 // that something could not be written, and nothing is put from there on.
+use std::env::FillError;
+use std::fs::File;
+use std::io::{ErrorKind, Write};
+use std::rt::{Env, Files};
+use std::{io, str};
 
 pub const SIZE: usize = 4096;
 
 // At this place and past it there is no room for another piece.
 const FULL: usize = 3072;
+
+// Room for a file's name, which the system wants below this.
+const NAME: usize = 4096;
 
 // One byte; the place after it.
 pub fn put_byte(buffer: &mut [u8; SIZE], at: usize, byte: u8) -> usize {
@@ -27,9 +35,8 @@ pub fn put(buffer: &mut [u8; SIZE], at: usize, bytes: &[u8]) -> usize {
 
 // A number's decimal digits.
 pub fn put_decimal(buffer: &mut [u8; SIZE], at: usize, n: u64) -> usize {
-    let mut text = [0u8; 20];
-    let k = io::decimal(n, &mut text);
-    put(buffer, at, &text[..k])
+    let mut text = itoa::Buffer::new();
+    put(buffer, at, text.format(n).as_bytes())
 }
 
 // A length in whole nanometres.
@@ -62,50 +69,67 @@ pub fn put_double(buffer: &mut [u8; SIZE], at: usize, x: f64) -> usize {
 }
 
 // Writes what was put. The place is then the first, or past the last if it could not be written.
-fn written(fd: i32, buffer: &[u8], at: usize) -> usize {
+fn written(file: &mut impl Write, buffer: &[u8], at: usize) -> usize {
     if at >= buffer.len() {
         return SIZE;
     }
-    if io::write_all(fd, &buffer[..at]) {
-        return 0;
+    match file.write_all(&buffer[..at]) {
+        Ok(()) => 0,
+        Err(_) => SIZE,
     }
-    SIZE
 }
 
 // Makes room for another piece.
-pub fn room(fd: i32, buffer: &[u8; SIZE], at: usize) -> usize {
+pub fn room(file: &mut impl Write, buffer: &[u8; SIZE], at: usize) -> usize {
     if at < FULL {
         return at;
     }
-    written(fd, buffer, at)
+    written(file, buffer, at)
+}
+
+// Argument i, a file's name, which is put at the start of a lent buffer.
+fn argument<'a>(rt: &impl Env, i: usize, name: &'a mut [u8; NAME]) -> io::Result<&'a str> {
+    match rt.arg(i, name) {
+        Ok(n) => match str::from_utf8(&name[..n]) {
+            Ok(text) => Ok(text),
+            Err(_) => Err(io::Error::from(ErrorKind::InvalidData)),
+        },
+        Err(FillError::TooLong) => Err(io::Error::from(ErrorKind::InvalidFilename)),
+        Err(FillError::NotPresent) => Err(io::Error::from(ErrorKind::NotFound)),
+    }
 }
 
 // Opens the file that argument i names, or says why it cannot.
-pub fn open(i: usize) -> i32 {
-    let mut name = io::buffer();
-    let n = os::arg(i, &mut name);
-    if os::errno() != 0 {
-        os::fail(b"file name");
-        return -1;
+pub fn open<R: Env + Eprint + Files>(rt: &R, i: usize) -> Option<R::File> {
+    let mut name = [0; NAME];
+    let name = match argument(rt, i, &mut name) {
+        Ok(name) => name,
+        Err(e) => {
+            let _ = eprintln!(rt; "file name: {e}");
+            return None;
+        }
+    };
+    match File::create(rt, name) {
+        Ok(file) => Some(file),
+        Err(e) => {
+            let _ = eprintln!(rt; "{name}: {e}");
+            None
+        }
     }
-    let fd = os::open_overwrite(&name[..n]);
-    if fd < 0 {
-        os::fail(&name[..n]);
-    }
-    fd
 }
 
 // Writes what is left and closes the file, the one that argument i names. A line says if it is not written whole.
-pub fn close(i: usize, fd: i32, buffer: &[u8; SIZE], at: usize) {
-    let last = written(fd, buffer, at);
-    let status = libc::close(fd);
-    if last == 0 {
-        if status == 0 {
-            return;
-        }
+pub fn close<W: Write + Drop>(
+    rt: &(impl Env + Eprint),
+    i: usize,
+    mut file: W,
+    buffer: &[u8; SIZE],
+    at: usize,
+) {
+    if written(&mut file, buffer, at) == 0 {
+        return;
     }
-    let mut name = io::buffer();
-    let n = os::arg(i, &mut name);
-    io::write_all(libc::STDERR_FILENO, &name[..n]);
-    io::write_all(libc::STDERR_FILENO, b": not written whole\n");
+    let mut name = [0; NAME];
+    let name = argument(rt, i, &mut name).unwrap_or("");
+    let _ = eprintln!(rt; "{name}: not written whole");
 }

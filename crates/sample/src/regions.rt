@@ -7,7 +7,9 @@ use crate::mesh::{ELEMENTS, NODES, PLACES, mesh_regions};
 use crate::report::{print_measured, print_mesh, print_refusal, print_region};
 use geometry::total_volume;
 use meshing::Meshed;
-use openrdson_core::{Measured, Solid};
+use openrdson_core::Solid;
+use std::io;
+use std::rt::{Env, Files};
 
 // Stands for the region of an element that is not there.
 const NO_REGION: u32 = 4294967295;
@@ -68,6 +70,7 @@ fn elements_of(element_regions: &[u32], region: u32) -> u64 {
 
 // A line for each region.
 fn print_regions(
+    rt: &impl Print,
     xs: &[f64; POINTS],
     ys: &[f64; POINTS],
     kinds: &[u8; REGIONS],
@@ -83,13 +86,14 @@ fn print_regions(
     polygons: &[u32; REGIONS],
     element_regions: &[u32; ELEMENTS],
     diagnostics: &[u32; REGIONS],
-) {
+) -> io::Result<()> {
     let mut i = 0;
     while i < REGIONS {
         let solid = solid_at(
             kinds, min_x, min_y, max_x, max_y, z_bottom, z_top, starts, counts, i,
         );
         print_region(
+            rt,
             i,
             polygons[i],
             kinds[i],
@@ -97,13 +101,15 @@ fn print_regions(
             diagnostics[i],
             elements_of(element_regions, i as u32),
             solid.volume(xs, ys),
-        );
+        )?;
         i += 1;
     }
+    Ok(())
 }
 
 // Meshes the regions, prints a line for each, one for the mesh and one for the volume, and writes the files that are asked for.
-pub fn mesh_and_print(
+pub fn mesh_and_print<R: Env + Eprint + Files + Print>(
+    rt: &R,
     xs: &[f64; POINTS],
     ys: &[f64; POINTS],
     kinds: &[u8; REGIONS],
@@ -118,7 +124,7 @@ pub fn mesh_and_print(
     materials: &[u32; REGIONS],
     nets: &[u32; REGIONS],
     polygons: &[u32; REGIONS],
-) {
+) -> io::Result<()> {
     let mut node_x = [0.0; NODES];
     let mut node_y = [0.0; NODES];
     let mut node_z = [0.0; NODES];
@@ -150,9 +156,10 @@ pub fn mesh_and_print(
         &mut diagnostics,
     );
     match meshed {
-        Meshed::Refused(why) => print_refusal(b"meshing refused with ", why),
+        Meshed::Refused(why) => print_refusal(rt, b"meshing refused with ", why)?,
         Meshed::Done(mesh) => {
             print_regions(
+                rt,
                 xs,
                 ys,
                 kinds,
@@ -168,9 +175,10 @@ pub fn mesh_and_print(
                 polygons,
                 &element_regions,
                 &diagnostics,
-            );
-            print_mesh(mesh.nodes, mesh.elements);
+            )?;
+            print_mesh(rt, mesh.nodes, mesh.elements)?;
             write_files(
+                rt,
                 xs,
                 ys,
                 kinds,
@@ -197,5 +205,5 @@ pub fn mesh_and_print(
         kinds, min_x, min_y, max_x, max_y, z_bottom, z_top, starts, counts, materials, nets,
         polygons, xs, ys,
     );
-    print_measured(b"total volume: ", total);
+    print_measured(rt, b"total volume: ", total)
 }

@@ -6,6 +6,7 @@ use crate::layout::{POINTS, REGIONS};
 use crate::legend::{LAYERS, layer_material, put_head, put_legend, put_paint};
 use crate::mesh::{ELEMENTS, NODES, PLACES, coordinate, node_at};
 use crate::out::{SIZE, put, put_byte, put_decimal, put_nanometres, room};
+use std::io::Write;
 
 // A letter of a path, and a point.
 fn put_point(buffer: &mut [u8; SIZE], at: usize, letter: u8, x: f64, y: f64) -> usize {
@@ -36,7 +37,7 @@ fn put_ring_point(
 }
 
 fn put_ring(
-    fd: i32,
+    file: &mut impl Write,
     buffer: &mut [u8; SIZE],
     at: usize,
     xs: &[f64; POINTS],
@@ -48,7 +49,7 @@ fn put_ring(
     let mut i = 0u32;
     while i < count {
         at = put_ring_point(buffer, at, xs, ys, start, i);
-        at = room(fd, buffer, at);
+        at = room(file, buffer, at);
         i += 1;
     }
     at
@@ -103,7 +104,7 @@ fn put_element(
 
 // The plan of a region's elements that stand at height z.
 fn put_elements(
-    fd: i32,
+    file: &mut impl Write,
     buffer: &mut [u8; SIZE],
     at: usize,
     xs: &[f64; NODES],
@@ -121,7 +122,7 @@ fn put_elements(
         if regions[k] == region {
             if coordinate(zs, node_at(places, k, 0) as usize) == z {
                 at = put_element(buffer, at, xs, ys, places, kinds[k], k);
-                at = room(fd, buffer, at);
+                at = room(file, buffer, at);
             }
         }
         k += 1;
@@ -131,7 +132,7 @@ fn put_elements(
 
 // The outline of region i, not yet closed.
 fn put_footprint(
-    fd: i32,
+    file: &mut impl Write,
     buffer: &mut [u8; SIZE],
     at: usize,
     point_x: &[f64; POINTS],
@@ -150,7 +151,7 @@ fn put_footprint(
     if region_kinds[i] == 0 {
         return put_rectangle(buffer, at, min_x[i], min_y[i], max_x[i], max_y[i]);
     }
-    put_ring(fd, buffer, at, point_x, point_y, starts[i], counts[i])
+    put_ring(file, buffer, at, point_x, point_y, starts[i], counts[i])
 }
 
 // A region's group: its number and its paint.
@@ -169,7 +170,7 @@ fn put_group(
 }
 
 fn put_region(
-    fd: i32,
+    file: &mut impl Write,
     buffer: &mut [u8; SIZE],
     at: usize,
     point_x: &[f64; POINTS],
@@ -196,7 +197,7 @@ fn put_region(
 {
     let at = put_group(buffer, at, i, materials[i], diagnostics[i]);
     let at = put_footprint(
-        fd,
+        file,
         buffer,
         at,
         point_x,
@@ -213,15 +214,15 @@ fn put_region(
     let at = put(buffer, at, b"Z'/>\n<path fill='none' d='");
     let z = z_bottom[i];
     let at = put_elements(
-        fd, buffer, at, xs, ys, zs, kinds, places, regions, i as u32, z,
+        file, buffer, at, xs, ys, zs, kinds, places, regions, i as u32, z,
     );
     let at = put(buffer, at, b"'/></g>\n");
-    room(fd, buffer, at)
+    room(file, buffer, at)
 }
 
 // The regions of a material.
 fn put_layer(
-    fd: i32,
+    file: &mut impl Write,
     buffer: &mut [u8; SIZE],
     at: usize,
     point_x: &[f64; POINTS],
@@ -249,7 +250,7 @@ fn put_layer(
     while i < REGIONS {
         if materials[i] == material {
             at = put_region(
-                fd,
+                file,
                 buffer,
                 at,
                 point_x,
@@ -280,7 +281,7 @@ fn put_layer(
 
 // The regions of every layer, from the bottom to the top.
 fn put_layers(
-    fd: i32,
+    file: &mut impl Write,
     buffer: &mut [u8; SIZE],
     at: usize,
     point_x: &[f64; POINTS],
@@ -306,7 +307,7 @@ fn put_layers(
     let mut n = 0;
     while n < LAYERS {
         at = put_layer(
-            fd,
+            file,
             buffer,
             at,
             point_x,
@@ -336,7 +337,7 @@ fn put_layers(
 
 // The whole file, but for what is left in the buffer.
 pub fn put_plan(
-    fd: i32,
+    file: &mut impl Write,
     buffer: &mut [u8; SIZE],
     point_x: &[f64; POINTS],
     point_y: &[f64; POINTS],
@@ -359,7 +360,7 @@ pub fn put_plan(
 ) -> usize {
     let at = put_head(buffer, 0);
     let at = put_layers(
-        fd,
+        file,
         buffer,
         at,
         point_x,
@@ -382,6 +383,6 @@ pub fn put_plan(
         regions,
     );
     let at = put(buffer, at, b"</g>\n");
-    let at = put_legend(fd, buffer, at);
+    let at = put_legend(file, buffer, at);
     put(buffer, at, b"</svg>\n")
 }

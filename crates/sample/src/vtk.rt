@@ -2,6 +2,7 @@
 use crate::layout::REGIONS;
 use crate::mesh::{ELEMENTS, NODES, PLACES, coordinate, node_at};
 use crate::out::{SIZE, put, put_decimal, put_double, put_int, room};
+use std::io::Write;
 
 // What a column holds for each element.
 const TYPE: u8 = 0;
@@ -44,7 +45,7 @@ fn put_head(buffer: &mut [u8; SIZE], at: usize, nodes: u64) -> usize {
 }
 
 fn put_points(
-    fd: i32,
+    file: &mut impl Write,
     buffer: &mut [u8; SIZE],
     at: usize,
     xs: &[f64; NODES],
@@ -58,7 +59,7 @@ fn put_points(
         at = put_double(buffer, at, coordinate(xs, i));
         at = put_double(buffer, at, coordinate(ys, i));
         at = put_double(buffer, at, coordinate(zs, i));
-        at = room(fd, buffer, at);
+        at = room(file, buffer, at);
         i += 1;
     }
     at
@@ -131,7 +132,7 @@ fn put_cell(
 }
 
 fn put_cells(
-    fd: i32,
+    file: &mut impl Write,
     buffer: &mut [u8; SIZE],
     at: usize,
     kinds: &[u8; ELEMENTS],
@@ -142,7 +143,7 @@ fn put_cells(
     let mut k = 0;
     while k < elements {
         at = put_cell(buffer, at, kind_at(kinds, k), places, k);
-        at = room(fd, buffer, at);
+        at = room(file, buffer, at);
         k += 1;
     }
     at
@@ -165,7 +166,7 @@ fn entry(
 }
 
 fn put_column(
-    fd: i32,
+    file: &mut impl Write,
     buffer: &mut [u8; SIZE],
     at: usize,
     column: u8,
@@ -178,7 +179,7 @@ fn put_column(
     let mut k = 0;
     while k < elements {
         at = put_int(buffer, at, entry(column, kinds, regions, materials, k));
-        at = room(fd, buffer, at);
+        at = room(file, buffer, at);
         k += 1;
     }
     at
@@ -186,7 +187,7 @@ fn put_column(
 
 // The whole file, but for what is left in the buffer.
 pub fn put_mesh(
-    fd: i32,
+    file: &mut impl Write,
     buffer: &mut [u8; SIZE],
     xs: &[f64; NODES],
     ys: &[f64; NODES],
@@ -200,12 +201,12 @@ pub fn put_mesh(
 ) -> usize {
     let n = elements as u64;
     let at = put_head(buffer, 0, nodes as u64);
-    let at = put_points(fd, buffer, at, xs, ys, zs, nodes);
+    let at = put_points(file, buffer, at, xs, ys, zs, nodes);
     let at = put_count(buffer, at, b"\nCELLS ", n, b" ");
     let at = put_count(buffer, at, b"", cell_numbers(kinds, elements), b"\n");
-    let at = put_cells(fd, buffer, at, kinds, places, elements);
+    let at = put_cells(file, buffer, at, kinds, places, elements);
     let at = put_count(buffer, at, b"\nCELL_TYPES ", n, b"\n");
-    let at = put_column(fd, buffer, at, TYPE, kinds, regions, materials, elements);
+    let at = put_column(file, buffer, at, TYPE, kinds, regions, materials, elements);
     let at = put_count(
         buffer,
         at,
@@ -215,13 +216,15 @@ pub fn put_mesh(
     );
     let at = put(buffer, at, b"LOOKUP_TABLE default\n");
     let at = put_column(
-        fd, buffer, at, MATERIAL, kinds, regions, materials, elements,
+        file, buffer, at, MATERIAL, kinds, regions, materials, elements,
     );
     let at = put(
         buffer,
         at,
         b"\nSCALARS region int 1\nLOOKUP_TABLE default\n",
     );
-    let at = put_column(fd, buffer, at, REGION, kinds, regions, materials, elements);
+    let at = put_column(
+        file, buffer, at, REGION, kinds, regions, materials, elements,
+    );
     put(buffer, at, b"\n")
 }
