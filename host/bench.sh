@@ -4,7 +4,7 @@ set -euo pipefail
 cd "$(dirname "$0")/.."
 export CARGO_TARGET_DIR="$PWD/target/cargo"
 host/assemble.sh
-rt staticlib c_api >&2
+host/archive.sh >&2
 cd host
 cargo build --quiet --release --offline --locked -p bench
 exec "$CARGO_TARGET_DIR/release/bench" "$@"

@@ -16,9 +16,7 @@ if ! [[ $minutes =~ ^[1-9][0-9]{0,5}$ ]]; then
 fi
 export CARGO_TARGET_DIR="$PWD/target/cargo"
 host/assemble.sh
-# An archive of an earlier run would hide a crate that is no longer proved.
-rm -rf target/staticlib
-rt staticlib c_api
+host/archive.sh
 cd host
 cargo build --quiet --release --offline --locked -p compare
 "$CARGO_TARGET_DIR/release/compare" --seconds $((60 * minutes)) ${rest[@]+"${rest[@]}"}

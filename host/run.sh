@@ -5,9 +5,8 @@ set -euo pipefail
 cd "$(dirname "$0")/.."
 export CARGO_TARGET_DIR="$PWD/target/cargo"
 host/assemble.sh
-# An archive of an earlier run would hide a crate that is no longer proved.
-rm -rf target/staticlib
-rt staticlib c_api
+host/archive.sh
+host/sample.sh
 cd host
 cargo build --quiet --release --offline --locked
 "$CARGO_TARGET_DIR/release/header"

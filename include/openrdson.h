@@ -1,5 +1,5 @@
 /*
- * The mesh step of OpenRdson, proved: the functions of the archive libc_api.a, which `rt staticlib c_api` writes.
+ * The mesh step of OpenRdson, proved: the functions of the archive libc_api.a, which host/archive.sh makes.
  *
  * A function that can be refused returns OPENRDSON_ACCEPTED, or the number of the first refusal that applies, and gives
  * its value through pointers. A refusal writes nothing; an accepted call keeps the list entries past those it fills.

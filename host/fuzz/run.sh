@@ -6,7 +6,7 @@ set -euo pipefail
 cd "$(dirname "$0")/../.."
 seconds=${1:-3600} seed=${2:-1}
 archive=target/staticlib/libc_api.a out=target/fuzz
-[ -f "$archive" ] || { echo "no $archive: run rt staticlib c_api" >&2; exit 1; }
+[ -f "$archive" ] || { echo "no $archive: run host/archive.sh" >&2; exit 1; }
 rm -rf "$out/corpus" "$out/finds" "$out/objects"
 mkdir -p "$out/corpus" "$out/finds" "$out/objects"
 for file in host/fuzz/*.c; do

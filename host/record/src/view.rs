@@ -67,7 +67,7 @@ fn refusals(folder: &Path) -> Result<Vec<String>, String> {
 
 fn sample(names: &[&Path]) -> Result<Output, String> {
     let program = top("target/bin/sample");
-    Command::new(&program).args(names).output().map_err(|fault| format!("target/bin/sample: {fault}: run `rt check sample`"))
+    Command::new(&program).args(names).output().map_err(|fault| format!("target/bin/sample: {fault}: run `host/sample.sh`"))
 }
 
 fn read(path: &Path) -> Result<Vec<u8>, String> {
