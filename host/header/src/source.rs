@@ -37,13 +37,13 @@ pub fn functions() -> Vec<Function> {
     let mut functions = Vec::new();
     for file in files {
         let text = text(&format!("{folder}/{file}"));
-        let parts = text.split("#[no_mangle]").skip(1);
+        let parts = text.split("#[unsafe(no_mangle)]").skip(1);
         functions.extend(parts.map(|part| function(part).unwrap_or_else(|| panic!("{file}: no function is read in{part}"))));
     }
     functions
 }
 
-/// The function that follows `#[no_mangle]`.
+/// The function that follows `#[unsafe(no_mangle)]`.
 fn function(part: &str) -> Option<Function> {
     let (head, rest) = part.trim_start().strip_prefix("pub extern \"C\" fn ")?.split_once('(')?;
     let name = head.split('<').next()?.to_string();
@@ -71,7 +71,7 @@ fn parameter(one: &str) -> Option<Parameter> {
 /// The fields of a struct, which must be all floats.
 pub fn fields(file: &str, name: &str) -> Vec<String> {
     let text = text(file);
-    let (_, rest) = text.split_once(&format!("#[repr(C)]\npub struct {name} {{")).unwrap_or_else(|| panic!("{file}: no {name}"));
+    let (_, rest) = text.split_once(&format!("#[repr(C)]\n#[derive(Clone, Copy)]\npub struct {name} {{")).unwrap_or_else(|| panic!("{file}: no {name}"));
     let (body, _) = rest.split_once('}').unwrap();
     let field = |one: &str| one.trim().strip_prefix("pub ").and_then(|one| one.strip_suffix(": f64")).map(str::to_string);
     body.split(',').filter(|one| !one.trim().is_empty()).map(|one| field(one).unwrap_or_else(|| panic!("{file}: {one}"))).collect()
