@@ -10,7 +10,7 @@ use lib.ListN.{length, get_or, length-append, get_or-append}
 use lib.Seq.{get_or_at}
 use lib.Ieee.{Float}
 use Rattle.lists.specs.Answer.{Answer, refused, given, map_answer, left, status}
-use Rattle.lists.specs.Lists.{put, part, runs, elems, fold_below}
+use Rattle.lists.specs.Lists.{put, part, elems, fold_below}
 use Rattle.lists.specs.Counts.{occurs}
 use Rattle.lists.proofs.Answers.{passed_then, given_same}
 use Rattle.lists.proofs.Counts.{occurs_append, occurs_same, occurs_other}
