@@ -12,7 +12,6 @@ some zero n h = omega arith
 some (suc a) n h = omega arith
 
 -- a root of a u64 has 32 binary digits
-
 small : (r s n : ℕ) → Fits w64 n → r * r + s ≡ n → r < 2 ^ 32
 small r s n f e = square_lt r (2 ^ 32) (under (r * r) s n f e)
   where

@@ -33,7 +33,6 @@ of_zero (fin s zero e) h = refl
 of_zero (fin s (suc m) e) h = absurd (suc-ne-zero m (zero_digits s (suc m) e h))
 
 -- not above zero, and no zero
-
 none_below : (x : Float) → lt (fin false 0 (pos 0)) x ≡ false → eq x (fin false 0 (pos 0)) ≡ false → nan ≡ sqrt_of x
 unfolding sqrt_of lt
 none_below nan h k = refl

@@ -6,7 +6,6 @@ use mir.ValLaws.{to_z-of_z, to_z_pos}
 use Rattle.binary64.proofs.rounding.minus_capped.Goals as goal
 
 -- 0 - k, read from k's bits
-
 negated : (k : ℕ) → k < 2 ^ 63 → pos 0 -ℤ to_z w64 k ≡ neg_ℤ (pos k)
 negated k h = ap (λ (z : ℤ). pos 0 -ℤ z) (to_z_pos w64 k h) ∙ +ℤ_idl (neg_ℤ (pos k))
 

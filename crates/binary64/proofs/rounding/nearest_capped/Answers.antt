@@ -14,7 +14,6 @@ unfolding nearest_capped
 returns-then-x c = sym (ap nearest_capped (differs_from_itself c.args.x (subst T (sym c.if-x.true) tt)))
 
 -- what the second test says, of the definition's size
-
 sized : (x a : Float) (b : Bool) → a ≡ abs x → lt a (fin false 1 (pos 63)) ≡ b → lt (abs x) (fin false 1 (pos 63)) ≡ b
 sized x a b e h = subst (λ (y : Float). lt y (fin false 1 (pos 63)) ≡ b) e h
 

@@ -7,7 +7,6 @@ use Rattle.meshing.proofs.weld.write_kept.Goals as goal
 use Rattle.meshing.proofs.weld.write_kept.Goals.{Then-is_first, else-is_first, then-is_first}
 
 -- where node i is kept there is room for it
-
 room : (c : Then-is_first) → c.loop-i.count < length c.args.out_x.now
 room c =
     let a = c.args in

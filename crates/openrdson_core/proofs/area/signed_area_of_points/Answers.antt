@@ -20,7 +20,6 @@ pub returns-then-not-range_to : goal.returns-then-not-range_to
 returns-then-not-range_to c = rw (sym c.range_to.ensures ∙ not-true _ c.if-not-range_to.true-raw)
 
 -- the whole sum
-
 closed : (c : Else-n-lt3) → c.add_to-most.result ⊕ c.cross_of.result ≡ shoelace c.args.xs.now c.args.ys.now (length c.args.xs.now)
 closed c =
     ap (λ (z : Float). c.add_to-most.result ⊕ z) c.cross_of.ensures
