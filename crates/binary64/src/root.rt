@@ -4,7 +4,7 @@ ghost use Rattle.std.specs.Float.Ieee.Positive.{positive};
 ghost use Rattle.binary64.specs.Root.{sqrt_of};
 
 // The number m * 2^e.
-#[derive(Drop)]
+#[derive(Clone, Copy)]
 struct Scaled {
     m: u64,
     e: u64,
@@ -46,7 +46,7 @@ fn estimated_root(n: u64) -> u64
 }
 
 // A root cut to a whole number, and what the number has beyond its square.
-#[derive(Drop)]
+#[derive(Clone, Copy)]
 struct RootAndRest {
     root: u64,
     rest: u64,

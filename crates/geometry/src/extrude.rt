@@ -13,7 +13,7 @@ use openrdson_core::{
 };
 
 // A solid, or why there is none.
-#[derive(Drop)]
+#[derive(Clone, Copy)]
 pub enum Extruded {
     Solid(Solid),
     Refused(Refusal),

@@ -8,7 +8,7 @@ ghost use Rattle.geometry.specs.Ranges as spec;
 use openrdson_core::{Figure, Span, StackLayer, ViaLayers, find_stack_layer, find_via};
 
 // A bottom and a top, if there are any.
-#[derive(Drop)]
+#[derive(Clone, Copy)]
 pub enum ZRange {
     From(f64, f64),
     Nothing,

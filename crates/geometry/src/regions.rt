@@ -6,7 +6,7 @@ ghost use Rattle.geometry.specs.Answers.{built_answer};
 use openrdson_core::{Material, PolygonNumber, Refusal, Solid, SolidRegion};
 
 // A region, or why there is none.
-#[derive(Drop)]
+#[derive(Clone, Copy)]
 pub enum Built {
     Region(SolidRegion),
     Refused(Refusal),

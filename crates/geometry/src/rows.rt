@@ -60,7 +60,7 @@ fn sides_of(solid: Solid) -> Bbox
 }
 
 // A part of the point lists.
-#[derive(Drop)]
+#[derive(Clone, Copy)]
 struct Part {
     start: u32,
     count: u32,

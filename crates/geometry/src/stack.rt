@@ -17,14 +17,14 @@ use crate::table::{fill_plans, plan_of_layer};
 use openrdson_core::{Check, PolygonNumber, Refusal, check_blocks};
 
 // How many regions were written, or why none.
-#[derive(Drop)]
+#[derive(Clone, Copy)]
 pub enum Stacked {
     Regions(usize),
     Refused(Refusal),
 }
 
 // What a polygon comes to: its outcome, and how many rows it has.
-#[derive(Drop)]
+#[derive(Clone, Copy)]
 struct Placed {
     outcome: u8,
     rows: usize,

@@ -93,15 +93,15 @@ module _ (r : Regions) (px py : List Float) (o : Overrides) (default : MeshConfi
 -- ---- the refusals
 
 -- by what is known of the lists
-module _ (regionsEven pointsEven overridesEven meshParallel : Bool) (regions points overrides : ℕ) (countsIn overridesNamed : Bool) (diagnostics : ℕ) where
+module _ (are_regions_even are_points_even are_overrides_even is_mesh_parallel : Bool) (regions points overrides : ℕ) (are_counts_in are_overrides_named : Bool) (diagnostics : ℕ) where
   abbrev even : Bool
-  even = regionsEven && pointsEven && overridesEven && meshParallel
+  even = are_regions_even && are_points_even && are_overrides_even && is_mesh_parallel
 
   abbrev short : Bool
   short = leb regions 4096 && leb points 2097152 && leb overrides 4096
 
   abbrev judged : Answer (Unit {0})
-  judged = model_judged regionsEven pointsEven overridesEven meshParallel regions points overrides countsIn overridesNamed diagnostics
+  judged = model_judged are_regions_even are_points_even are_overrides_even is_mesh_parallel regions points overrides are_counts_in are_overrides_named diagnostics
 
   pub uneven_job : not even ≡ true → refused 16 ≡ judged
   unfolding model_judged
@@ -113,23 +113,23 @@ module _ (regionsEven pointsEven overridesEven meshParallel : Bool) (regions poi
     long_job b = rw (not-false even a, not-true short b)
 
     module _ (b : not short ≡ false) where
-      pub outside_job : not (countsIn && overridesNamed) ≡ true → refused 15 ≡ judged
+      pub outside_job : not (are_counts_in && are_overrides_named) ≡ true → refused 15 ≡ judged
       unfolding model_judged
-      outside_job d = rw (not-false even a, not-false short b, not-true (countsIn && overridesNamed) d)
+      outside_job d = rw (not-false even a, not-false short b, not-true (are_counts_in && are_overrides_named) d)
 
-      module _ (d : not (countsIn && overridesNamed) ≡ false) where
+      module _ (d : not (are_counts_in && are_overrides_named) ≡ false) where
         pub narrow_job : not (leb regions diagnostics) ≡ true → refused 12 ≡ judged
         unfolding model_judged
-        narrow_job e = rw (not-false even a, not-false short b, not-false (countsIn && overridesNamed) d, not-true (leb regions diagnostics) e)
+        narrow_job e = rw (not-false even a, not-false short b, not-false (are_counts_in && are_overrides_named) d, not-true (leb regions diagnostics) e)
 
         pub fine_job : not (leb regions diagnostics) ≡ false → given tt ≡ judged
         unfolding model_judged
-        fine_job e = rw (not-false even a, not-false short b, not-false (countsIn && overridesNamed) d, not-false (leb regions diagnostics) e)
+        fine_job e = rw (not-false even a, not-false short b, not-false (are_counts_in && are_overrides_named) d, not-false (leb regions diagnostics) e)
 
   -- what a job that is meshed has
   pub record JobFine : Type 0 where
-    pub regions_even : regionsEven ≡ true
-    pub overrides_even : overridesEven ≡ true
+    pub regions_even : are_regions_even ≡ true
+    pub overrides_even : are_overrides_even ≡ true
     pub few : leb regions 4096 ≡ true
     pub room : leb regions diagnostics ≡ true
 
@@ -138,11 +138,11 @@ module _ (regionsEven pointsEven overridesEven meshParallel : Bool) (regions poi
   job_fine e =
       let p = passed even 16 _ e in
       let q = passed short 2 _ p.1 in
-      let s = passed (countsIn && overridesNamed) 15 _ q.1 in
+      let s = passed (are_counts_in && are_overrides_named) 15 _ q.1 in
       let t = passed (leb regions diagnostics) 12 _ s.1 in
-      let x = both (regionsEven && pointsEven && overridesEven) meshParallel p.0 in
-      let y = both (regionsEven && pointsEven) overridesEven x.0 in
-      let z = both regionsEven pointsEven y.0 in
+      let x = both (are_regions_even && are_points_even && are_overrides_even) is_mesh_parallel p.0 in
+      let y = both (are_regions_even && are_points_even) are_overrides_even x.0 in
+      let z = both are_regions_even are_points_even y.0 in
       let u = both (leb regions 4096 && leb points 2097152) (leb overrides 4096) q.0 in
       record { regions_even = z.0; overrides_even = y.1; few = (both (leb regions 4096) (leb points 2097152) u.0).0; room = t.0 }
 

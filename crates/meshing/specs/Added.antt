@@ -53,7 +53,7 @@ element_appended base p e =
     && rest_unused (used_places (kind_of (get_or p.kinds e 0))) (part (8 * e) 8 p.places)
 
 pub record PartSound (base : ℕ) (p : Part) : Type 0 where
-  pub same_ys_lem : length p.ys ≡ length p.xs
-  pub same_zs_lem : length p.zs ≡ length p.xs
+  pub same_ys : length p.ys ≡ length p.xs
+  pub same_zs : length p.zs ≡ length p.xs
   pub eight : length p.places ≡ 8 * length p.kinds
   pub elements : all_below (length p.kinds) (element_appended base p) ≡ true

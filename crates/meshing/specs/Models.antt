@@ -103,9 +103,9 @@ pub record RunAs (s : Run) (c : Counts) (m : Mesh) (ds ds' : List ℕ) : Type 0 
 -- ---- the refusals, by what is known of the lists (proofs/ModelLaws ties them to `mesh_model`)
 
 unfoldable pub model_judged : Bool → Bool → Bool → Bool → ℕ → ℕ → ℕ → Bool → Bool → ℕ → Answer (Unit {0})
-model_judged regionsEven pointsEven overridesEven meshParallel regions points overrides countsIn overridesNamed diagnostics =
-    unless (regionsEven && pointsEven && overridesEven && meshParallel) 16
+model_judged are_regions_even are_points_even are_overrides_even is_mesh_parallel regions points overrides are_counts_in are_overrides_named diagnostics =
+    unless (are_regions_even && are_points_even && are_overrides_even && is_mesh_parallel) 16
     (unless (leb regions 4096 && leb points 2097152 && leb overrides 4096) 2
-    (unless (countsIn && overridesNamed) 15
+    (unless (are_counts_in && are_overrides_named) 15
     (unless (leb regions diagnostics) 12
     (given tt))))

@@ -18,7 +18,7 @@ pub enum Meshed {
 }
 
 // How many cells a box has along x, y and z, or why it is not meshed.
-#[derive(Drop)]
+#[derive(Clone, Copy)]
 pub enum BoxPlan {
     Cells(usize, usize, usize),
     Refused(Refusal),

@@ -28,7 +28,7 @@ impl MeshConfig {
 }
 
 // How many cells an axis has, or why it has none.
-#[derive(Drop)]
+#[derive(Clone, Copy)]
 pub enum Counted {
     Cells(usize),
     Refused(Refusal),

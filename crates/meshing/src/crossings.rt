@@ -11,7 +11,7 @@ use crate::ring::{next_place, point_at};
 use openrdson_core::Point;
 
 // How many edges cross a height; or that one crosses it where document 01 admits no number.
-#[derive(Drop)]
+#[derive(Clone, Copy)]
 pub enum Crossed {
     Edges(usize),
     Outside,

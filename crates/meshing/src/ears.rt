@@ -13,14 +13,14 @@ use crate::ring::{next_place, point_at, prev_place};
 use openrdson_core::Point;
 
 // The place of an ear in a walk, if it has one.
-#[derive(Drop)]
+#[derive(Clone, Copy)]
 pub enum Ear {
     At(usize),
     Nowhere,
 }
 
 // Whether all ears could be cut.
-#[derive(Drop)]
+#[derive(Clone, Copy)]
 pub enum Cut {
     Done,
     Stalled,

@@ -19,7 +19,7 @@ pub struct Quad {
 }
 
 // How many quads there are, and whether all their corners are in range.
-#[derive(Drop)]
+#[derive(Clone, Copy)]
 pub struct Tally {
     pub quads: usize,
     pub inside: bool,

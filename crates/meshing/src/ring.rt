@@ -7,7 +7,7 @@ ghost use Rattle.meshing.specs.Ring.{is_close, kept, gathered, KeptIn, CleanedAs
 use openrdson_core::{Check, Point, Refusal, ring_check};
 
 // A cleaned ring's count of points, or why there is none.
-#[derive(Drop)]
+#[derive(Clone, Copy)]
 pub enum Cleaned {
     Points(usize),
     Refused(Refusal),

@@ -17,14 +17,14 @@ use crate::writes::{fill_bytes, fill_words};
 use openrdson_core::{Counts, Refusal, UNUSED, has_room};
 
 // How many quads a ring has, or why it has none.
-#[derive(Drop)]
+#[derive(Clone, Copy)]
 pub enum Scanned {
     Quads(usize),
     Refused(Refusal),
 }
 
 // The tally of the quads of all bands; or that an edge crosses a band's middle out of range.
-#[derive(Drop)]
+#[derive(Clone, Copy)]
 pub enum Bands {
     Quads(Tally),
     Outside,

@@ -15,7 +15,7 @@ use crate::writes::copy_words;
 use openrdson_core::{Check, Measured, Refusal, polygon_signed_area, ring_check};
 
 // How many vertices the cleaned ring has, and how many triangles; or why there are none.
-#[derive(Drop)]
+#[derive(Clone, Copy)]
 pub enum Triangulated {
     Counts(usize, usize),
     Refused(Refusal),

@@ -138,7 +138,7 @@ fn range_to(xs: &[f64], ys: &[f64], from: usize, to: usize, start: bool) -> bool
 }
 
 // The sum over the edges from the first `count` points, and whether these are in range.
-#[derive(Drop)]
+#[derive(Clone, Copy)]
 struct Partial {
     sum: f64,
     fine: bool,

@@ -17,7 +17,7 @@ pub struct Bbox {
 }
 
 // A bounding box, or why there is none.
-#[derive(Drop)]
+#[derive(Clone, Copy)]
 pub enum Bounded {
     Value(Bbox),
     Refused(Refusal),

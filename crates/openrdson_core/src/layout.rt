@@ -12,7 +12,7 @@ use crate::maps::Span;
 use crate::refusals::Refusal;
 
 // A part of the layer-name block, or why it is not read.
-#[derive(Drop)]
+#[derive(Clone, Copy)]
 pub enum NamePart {
     Part(usize, usize),
     Nothing,

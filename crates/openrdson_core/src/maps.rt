@@ -16,7 +16,7 @@ pub enum Span {
 }
 
 // Where a physical name stands: in the conducting map or in the via map, from a start on; or why the maps are not read.
-#[derive(Drop)]
+#[derive(Clone, Copy)]
 pub enum NamePlace {
     Conducting(usize, usize),
     Via(usize, usize),
@@ -25,7 +25,7 @@ pub enum NamePlace {
 }
 
 // Whether a physical name was found, or why the maps are not read.
-#[derive(Drop)]
+#[derive(Clone, Copy)]
 pub enum Lookup {
     Found,
     Nothing,

@@ -30,21 +30,21 @@ impl Point {
 }
 
 // A number, or why there is none.
-#[derive(Drop)]
+#[derive(Clone, Copy)]
 pub enum Measured {
     Value(f64),
     Refused(Refusal),
 }
 
 // Yes or no, or why neither.
-#[derive(Drop)]
+#[derive(Clone, Copy)]
 pub enum Judged {
     Value(bool),
     Refused(Refusal),
 }
 
 // Nothing against it, or what is.
-#[derive(Drop)]
+#[derive(Clone, Copy)]
 pub enum Check {
     Fine,
     Refused(Refusal),

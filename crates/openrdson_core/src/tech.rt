@@ -26,7 +26,7 @@ pub enum Figure {
 }
 
 // A conductor's or a diffusion's height and thickness, or why the block is not read.
-#[derive(Drop)]
+#[derive(Clone, Copy)]
 pub enum StackLayer {
     Found(Figure, Figure),
     Nothing,
@@ -34,7 +34,7 @@ pub enum StackLayer {
 }
 
 // A via's bottom and top layer, as parts of the block, or why it is not read.
-#[derive(Drop)]
+#[derive(Clone, Copy)]
 pub enum ViaLayers {
     Found(Span, Span),
     Nothing,
@@ -42,7 +42,7 @@ pub enum ViaLayers {
 }
 
 // A material's number, or why the blocks are not read.
-#[derive(Drop)]
+#[derive(Clone, Copy)]
 pub enum Numbered {
     Value(Material),
     Refused(Refusal),

@@ -4,7 +4,7 @@ ghost use Rattle.std.specs.Prelude.{◌≤◌};
 use crate::words::word;
 
 // 0 or the refusal's number, and five values, 0 where unused.
-#[derive(Drop)]
+#[derive(Clone, Copy)]
 pub struct Answer {
     status: u64,
     a: u64,

@@ -13,7 +13,7 @@ fn is_within(n: usize, start: usize, count: usize) -> bool {
 }
 
 // A part's start and count in a block of n bytes.
-#[derive(Drop)]
+#[derive(Clone, Copy)]
 struct Place {
     fine: bool,
     start: u64,
@@ -38,7 +38,7 @@ impl Place {
 }
 
 // A figure's presence and bits.
-#[derive(Drop)]
+#[derive(Clone, Copy)]
 struct Shown {
     has: u64,
     value: u64,

@@ -113,8 +113,8 @@ box_sound base x y z =
     let nodes = grid_length nx ny nz (λ i j k. coordinate x i) in
     let cells = elems_length (λ _. kind_number kind.Hex) (grid_cells nx ny nz) in
     record {
-      same_ys_lem = grid_length nx ny nz (λ i j k. coordinate y j) ∙ sym nodes;
-      same_zs_lem = grid_length nx ny nz (λ i j k. coordinate z k) ∙ sym nodes;
+      same_ys = grid_length nx ny nz (λ i j k. coordinate y j) ∙ sym nodes;
+      same_zs = grid_length nx ny nz (λ i j k. coordinate z k) ∙ sym nodes;
       eight = hexes_length base nx ny nz ∙ ap (λ (n : ℕ). 8 * n) (sym cells);
       elements =
           all_from (element_appended base (box_part base x y z)) _ (λ e l.
@@ -173,8 +173,8 @@ module _ (base : ℕ) (z0 z1 : Float) (qs : List Trapezoid) where
   quads_sound =
       let prisms = elems_length (λ _. kind_number kind.Prism) (2 * length qs) in
       record {
-        same_ys_lem = joined_length quad_ys 8 (λ q. refl) qs ∙ sym quads_nodes;
-        same_zs_lem = runs_length (λ _. quad_zs z0 z1) 8 (λ i. refl) (length qs) ∙ sym quads_nodes;
+        same_ys = joined_length quad_ys 8 (λ q. refl) qs ∙ sym quads_nodes;
+        same_zs = runs_length (λ _. quad_zs z0 z1) 8 (λ i. refl) (length qs) ∙ sym quads_nodes;
         eight = omega (arith, runs_length quad_run 16 (λ i. refl) (length qs), prisms);
         elements = all_from (element_appended base (quads_part base z0 z1 qs)) _ (λ e l. quad_appended e (omega (arith, prisms)));
       }
@@ -211,8 +211,8 @@ triangles_sound base z0 z1 xs ys ts below same =
     let nodes : length (xs ++ xs) ≡ n + n = length-append xs xs in
     let prisms = elems_length (λ _. kind_number kind.Prism) (length ts) in
     record {
-      same_ys_lem = omega (arith, nodes, length-append ys ys);
-      same_zs_lem = omega (arith, nodes, length-append (elems n (λ _. z0)) (elems n (λ _. z1)), elems_length (λ _. z0) n, elems_length (λ _. z1) n);
+      same_ys = omega (arith, nodes, length-append ys ys);
+      same_zs = omega (arith, nodes, length-append (elems n (λ _. z0)) (elems n (λ _. z1)), elems_length (λ _. z0) n, elems_length (λ _. z1) n);
       eight = omega (arith, joined_length (prism_places base n) 8 (prism_places_lem base n) ts, prisms);
       elements =
           all_from (element_appended base p) _ (λ e l.
@@ -288,8 +288,8 @@ module _ (c : Counts) (region : ℕ) (m : Mesh) (p : Part) (w : WellFormed c m) 
       rw (
         xs_long,
         kinds_long,
-        put_length m.ys c.nodes p.ys (omega (arith, s.same_ys_lem, same.same_ys)),
-        put_length m.zs c.nodes p.zs (omega (arith, s.same_zs_lem, same.same_zs)),
+        put_length m.ys c.nodes p.ys (omega (arith, s.same_ys, same.same_ys)),
+        put_length m.zs c.nodes p.zs (omega (arith, s.same_zs, same.same_zs)),
         put_length m.places (8 * c.elements) p.places places_room,
         put_length m.regions c.elements (elems (length p.kinds) (λ _. region)) (omega (arith, marks, same.same_regions)),
       )

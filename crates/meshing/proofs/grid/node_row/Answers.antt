@@ -22,13 +22,13 @@ loop-i-preserved c = let a = c.args in
     )
 
 pub shape_of-xs : goal.shape_of-xs
-shape_of-xs c = length-set c.loop-i.xs (c.args.at + c.args.nx) c.args.x1 ∙ c.loop-i.invariant.0.long
+shape_of-xs c = length-set _ _ _ ∙ c.loop-i.invariant.0.long
 
 pub shape_of-ys : goal.shape_of-ys
-shape_of-ys c = length-set c.loop-i.ys (c.args.at + c.args.nx) c.args.y ∙ c.loop-i.invariant.1.long
+shape_of-ys c = length-set _ _ _ ∙ c.loop-i.invariant.1.long
 
 pub shape_of-zs : goal.shape_of-zs
-shape_of-zs c = length-set c.loop-i.zs (c.args.at + c.args.nx) c.args.z ∙ c.loop-i.invariant.2.long
+shape_of-zs c = length-set _ _ _ ∙ c.loop-i.invariant.2.long
 
 pub returns : goal.returns
 returns c = let a = c.args in
