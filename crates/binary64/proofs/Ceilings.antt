@@ -1,13 +1,12 @@
 -- Laws of `ceil_capped`: by a comparison, and from the number cut to a whole one. Assumes nothing.
-use Rattle.std.proofs.Common.{◌≡◌, ℕ, suc, ◌+◌, ◌-◌, ◌*◌, ◌/◌, ◌^◌, ◌<◌, ◌≤◌, min, true, false, T, ltb, pos, sym, refl, ap, ◌∙◌, subst, le_trans, mul-le-mul_right, le_antisymm, one-mul, le-div_iff_mul-le, mul-one, div-mul-le_self, arith, ltb→lt, lt→ltb, pow_pos, pow_mono, ltb-false, ltb-true, le-ltb, lt-ltb}
+use Rattle.std.proofs.Common.{◌≡◌, ℕ, suc, ◌+◌, ◌-◌, ◌*◌, ◌/◌, ◌^◌, ◌<◌, ◌≤◌, min, true, false, T, ltb, pos, sym, refl, ap, ◌∙◌, subst, le_antisymm, one-mul, le-div_iff_mul-le, div-mul-le_self, arith, ltb→lt, lt→ltb, pow_pos, pow_mono, ltb-false, ltb-true, le-ltb, lt-ltb, le_of_lt, zero-le, ℤ}
 use native.Mathlib.Nat.{div-eq_of_lt-le, lt-div-mul-add}
 use lib.Ieee.{Float, nan, inf, fin, binary64, up, down, lt, of_int, to_unsigned, round, fits}
 use lib.Ieee.Fits.{down_pos}
 use lib.Ieee.Exact.{HasValue}
 use lib.Ieee.Back.{round_whole}
-use lib.Ieee.Casts.{to_unsigned-lt}
 use Rattle.binary64.specs.Rounding.{quotient_up, ceil_capped}
-use Rattle.binary64.proofs.Values.{same_test, lt_values, cut_below, uncapped, digits, no_fraction}
+use Rattle.binary64.proofs.Values.{same_test, lt_values, uncapped, digits, no_fraction}
 
 -- ---- n / d rounded up
 pub up_above : (k n d : ℕ) → 0 < d → k * d < n → k < quotient_up n d
@@ -69,87 +68,82 @@ pub ceil_capped_above_int : (n : ℕ) → n ≤ 2 ^ 53 → (x : Float) → ltb n
 unfolding of_int
 ceil_capped_above_int n h x = ceil_above n (round binary64 false n 1) x (omega arith) (round_whole binary64 false n h)
 
--- ---- a number that is not above zero, and one of 2 ^ 64 or more
-pub ceil_none : (x : Float) → lt (fin false 0 (pos 0)) x ≡ false → ceil_capped x ≡ 0
-ceil_none x h = least (ceil_capped x) (ltb-false 0 (ceil_capped x) (ceil_above 0 (fin false 0 (pos 0)) x (omega arith) (refl, refl) ∙ h))
-  where
-    least : (a : ℕ) → a ≤ 0 → a ≡ 0
-    least a h = omega arith
-
-pub ceil_most : (x : Float) → lt (fin false 0 (pos 0)) x ≡ true → lt x (fin false 1 (pos 64)) ≡ false → ceil_capped x ≡ 2 ^ 64 - 1
-unfolding ceil_capped lt
-ceil_most nan h k = absurd (subst T (sym h) tt)
-ceil_most (inf true) h k = absurd (subst T (sym h) tt)
-ceil_most (inf false) h k = refl
-ceil_most (fin true m e) h k = absurd (subst T (sym h) tt)
-ceil_most (fin false m e) h k = capped (quotient_up (m * up e) (down e)) (up_above (2 ^ 64 - 1) (m * up e) (down e) (down_pos e) (over (m * up e) (down e) (down_pos e) (ltb-false (m * up e * 1) (1 * 2 ^ 64 * down e) k)))
-  where
-    over : (n d : ℕ) → 0 < d → 1 * 2 ^ 64 * d ≤ n * 1 → (2 ^ 64 - 1) * d < n
-    over n d D h = omega arith
-
-    capped : (q : ℕ) → 2 ^ 64 - 1 < q → min q (2 ^ 64 - 1) ≡ 2 ^ 64 - 1
-    capped q h = omega arith
-
--- ---- a number above zero and below 2 ^ 64, as a fraction n / d
-pub record Middle (x : Float) : Type 0 where
-  pub n : ℕ
-  pub d : ℕ
-  pub d_pos : 0 < d
-  pub value : HasValue x false n d
-  pub rounded : ceil_capped x ≡ min (quotient_up n d) (2 ^ 64 - 1)
-  pub under : n < 2 ^ 64 * d
-  pub whole : 2 ^ 53 * d ≤ n → d ≡ 1
-
-pub middle : (x : Float) → T (fits binary64 x) → lt (fin false 0 (pos 0)) x ≡ true → lt x (fin false 1 (pos 64)) ≡ true → Middle x
-unfolding ceil_capped lt
-middle nan t h k = absurd (subst T (sym h) tt)
-middle (inf true) t h k = absurd (subst T (sym h) tt)
-middle (inf false) t h k = absurd (subst T (sym k) tt)
-middle (fin true m e) t h k = absurd (subst T (sym h) tt)
-middle (fin false m e) t h k = record {
-  n = m * up e;
-  d = down e;
-  d_pos = down_pos e;
-  value = (refl, refl);
-  rounded = refl;
-  under = less (m * up e) (down e) (ltb-true (m * up e * 1) (1 * 2 ^ 64 * down e) k);
-  whole = no_fraction m e (digits false m e t).small;
-}
-  where
-    less : (n d : ℕ) → n * 1 < 1 * 2 ^ 64 * d → n < 2 ^ 64 * d
-    less n d h = omega arith
-
--- what the program finds of it: t, the number cut to a whole one, and whether that is less
-module _ (x : Float) (w : Middle x) (t : ℕ) (e : t ≡ to_unsigned 64 x) where
-  part : t ≡ w.n / w.d
-  part = e ∙ cut_below x w.n w.d w.d_pos w.value w.under
-
-  part_low : t * w.d ≤ w.n
-  part_low = subst (λ (z : ℕ). z * w.d ≤ w.n) (sym part) (div-mul-le_self w.n w.d)
-
-  part_high : w.n < t * w.d + w.d
-  part_high = subst (λ (z : ℕ). w.n < z * w.d + w.d) (sym part) (lt-div-mul-add w.d_pos)
-
-  rounded_as : (r : ℕ) → r < 2 ^ 64 → quotient_up w.n w.d ≡ r → ceil_capped x ≡ r
-  rounded_as r h q = w.rounded ∙ ap (λ (z : ℕ). min z (2 ^ 64 - 1)) q ∙ uncapped r h
-
-  t_most : t < 2 ^ 64
-  t_most = subst (λ (z : ℕ). z < 2 ^ 64) (sym e) (to_unsigned-lt 64 x)
-
-  below_is : t ≤ 2 ^ 53 → lt (of_int binary64 (pos t)) x ≡ ltb (t * w.d) w.n
-  unfolding of_int
-  below_is h =
-      lt_values (round binary64 false t 1) x false false t 1 w.n w.d (pow_pos 0) w.d_pos (round_whole binary64 false t h) w.value
-      ∙ ap (λ (z : ℕ). ltb (t * w.d) z) (mul-one w.n)
-
-  pub ceil_up : t < 2 ^ 53 → lt (of_int binary64 (pos t)) x ≡ true → ceil_capped x ≡ t + 1
-  ceil_up l h = rounded_as (t + 1) (omega arith) (up_more t w.n w.d w.d_pos (ltb-true (t * w.d) w.n (sym (below_is (omega arith)) ∙ h)) part_high)
-
-  pub ceil_here : t < 2 ^ 53 → lt (of_int binary64 (pos t)) x ≡ false → ceil_capped x ≡ t
-  ceil_here l h = rounded_as t t_most (up_same t w.n w.d w.d_pos (le_antisymm part_low (ltb-false (t * w.d) w.n (sym (below_is (omega arith)) ∙ h))))
-
-  pub ceil_whole : 2 ^ 53 ≤ t → ceil_capped x ≡ t
-  ceil_whole h = rounded_as t t_most (up_same t w.n w.d w.d_pos (exact t w.n w.d (w.whole (le_trans (mul-le-mul_right w.d h) part_low)) part_low part_high))
+-- ---- by t, the number cut to a whole one and capped to u64, and whether that is below the number
+-- a number above zero: t is n / d cut, while that is below the cap
+module _ (n d t : ℕ) (D : 0 < d) (is : min (n / d) (2 ^ 64 - 1) ≡ t) where
+  part : t < 2 ^ 53 → n / d ≡ t
+  part h = go (n / d) t is h
     where
-      exact : (t n d : ℕ) → d ≡ 1 → t * d ≤ n → n < t * d + d → t * d ≡ n
-      exact t n d e h k = omega arith
+      go : (q t : ℕ) → min q (2 ^ 64 - 1) ≡ t → t < 2 ^ 53 → q ≡ t
+      go q t e h = omega arith
+
+  part_low : t < 2 ^ 53 → t * d ≤ n
+  part_low h = subst (λ (z : ℕ). z * d ≤ n) (part h) (div-mul-le_self n d)
+
+  part_high : t < 2 ^ 53 → n < t * d + d
+  part_high h = subst (λ (z : ℕ). n < z * d + d) (part h) (lt-div-mul-add D)
+
+  up_is : t < 2 ^ 53 → t * d < n → min (quotient_up n d) (2 ^ 64 - 1) ≡ t + 1
+  up_is h l = ap (λ (z : ℕ). min z (2 ^ 64 - 1)) (up_more t n d D l (part_high h)) ∙ uncapped (t + 1) (omega arith)
+
+  here_is : t < 2 ^ 53 → n ≤ t * d → min (quotient_up n d) (2 ^ 64 - 1) ≡ t
+  here_is h l = ap (λ (z : ℕ). min z (2 ^ 64 - 1)) (up_same t n d D (le_antisymm (part_low h) l)) ∙ uncapped t (omega arith)
+
+-- the comparison with t, t being exact
+below_is : (t m : ℕ) (e : ℤ) → t < 2 ^ 53 → lt (of_int binary64 (pos t)) (fin false m e) ≡ ltb (t * down e) (m * up e * 1)
+unfolding of_int
+below_is t m e h = lt_values (round binary64 false t 1) (fin false m e) false false t 1 (m * up e) (down e) (pow_pos 0) (down_pos e) (round_whole binary64 false t (le_of_lt h)) (refl, refl)
+
+none_below : (m : ℕ) (e : ℤ) → lt (of_int binary64 (pos 0)) (fin true m e) ≡ false
+unfolding of_int
+none_below m e = lt_values (round binary64 false 0 1) (fin true m e) false true 0 1 (m * up e) (down e) (pow_pos 0) (down_pos e) (round_whole binary64 false 0 zero-le) (refl, refl)
+
+none_below_nan : lt (of_int binary64 (pos 0)) nan ≡ false
+unfolding of_int lt
+none_below_nan = refl
+
+none_below_inf : lt (of_int binary64 (pos 0)) (inf true) ≡ false
+unfolding of_int lt
+none_below_inf = refl
+
+pub ceil_up : (x : Float) → to_unsigned 64 x < 2 ^ 53 → lt (of_int binary64 (pos (to_unsigned 64 x))) x ≡ true → to_unsigned 64 x + 1 ≡ ceil_capped x
+unfolding to_unsigned ceil_capped
+ceil_up nan h l = absurd (subst T (sym (sym none_below_nan ∙ l)) tt)
+ceil_up (inf true) h l = absurd (subst T (sym (sym none_below_inf ∙ l)) tt)
+ceil_up (inf false) h l = omega arith
+ceil_up (fin true m e) h l = absurd (subst T (sym (sym (none_below m e) ∙ l)) tt)
+ceil_up (fin false m e) h l = sym (up_is (m * up e) (down e) _ (down_pos e) refl h (less (down e) (m * up e) _ (ltb-true _ (m * up e * 1) (sym (below_is _ m e h) ∙ l))))
+  where
+    less : (d n t : ℕ) → t * d < n * 1 → t * d < n
+    less d n t h = omega arith
+
+pub ceil_here : (x : Float) → to_unsigned 64 x < 2 ^ 53 → lt (of_int binary64 (pos (to_unsigned 64 x))) x ≡ false → to_unsigned 64 x ≡ ceil_capped x
+unfolding to_unsigned ceil_capped
+ceil_here nan h l = refl
+ceil_here (inf true) h l = refl
+ceil_here (inf false) h l = refl
+ceil_here (fin true m e) h l = refl
+ceil_here (fin false m e) h l = sym (here_is (m * up e) (down e) _ (down_pos e) refl h (most (down e) (m * up e) _ (ltb-false _ (m * up e * 1) (sym (below_is _ m e h) ∙ l))))
+  where
+    most : (d n t : ℕ) → n * 1 ≤ t * d → n ≤ t * d
+    most d n t h = omega arith
+
+-- from 2 ^ 53 on a number has no fraction
+pub ceil_whole : (x : Float) → T (fits binary64 x) → 2 ^ 53 ≤ to_unsigned 64 x → to_unsigned 64 x ≡ ceil_capped x
+unfolding to_unsigned ceil_capped
+ceil_whole nan f h = refl
+ceil_whole (inf true) f h = refl
+ceil_whole (inf false) f h = refl
+ceil_whole (fin true m e) f h = refl
+ceil_whole (fin false m e) f h =
+    ap (λ (z : ℕ). min z (2 ^ 64 - 1))
+    (same (m * up e) (down e) (no_fraction m e (digits false m e f).small ((le-div_iff_mul-le (down_pos e)).0 (long (m * up e / down e) h))))
+  where
+    long : (q : ℕ) → 2 ^ 53 ≤ min q (2 ^ 64 - 1) → 2 ^ 53 ≤ q
+    long q h = omega arith
+
+    same : (n d : ℕ) → d ≡ 1 → n / d ≡ quotient_up n d
+    same n d e = subst (λ (z : ℕ). n / z ≡ quotient_up n z) (sym e) (one n)
+      where
+        one : (n : ℕ) → n / 1 ≡ quotient_up n 1
+        one n = omega arith

@@ -1,13 +1,18 @@
--- Laws of `nearest_capped`: a number is rounded, halves away from zero, by its doubled size cut to a whole number. A number doubled is exact. Assumes nothing.
-use Rattle.std.proofs.Common.{◌≡◌, ℕ, zero, suc, ◌+◌, ◌-◌, ◌*◌, ◌/◌, ◌%◌, ◌^◌, ◌<◌, ◌≤◌, min, Bool, true, false, T, ℤ, pos, neg_ℤ, sym, refl, ap, ◌∙◌, subst, lt_of_lt_of_le, mul-le-mul_right, mul_assoc, div-lt_iff_lt-mul, add-mul, lt_of_mul-lt-mul_right, mul-lt-mul_of_pos_right, mul-pos, le-div_iff_mul-le, mul-add, mul_right_comm, arith, lit≤, pow_pos, ltb-false, ltb-true}
+-- Laws of `nearest_capped`: a number is rounded, halves away from zero, by its doubled size cut to a whole number. A number doubled is exact, and one too large for that is capped. Assumes nothing.
+use Rattle.std.proofs.Common.{◌≡◌, ℕ, zero, suc, ◌+◌, ◌-◌, ◌*◌, ◌/◌, ◌%◌, ◌^◌, ◌<◌, ◌≤◌, min, Bool, true, false, T, ℤ, pos, neg_ℤ, sym, refl, ap, ◌∙◌, subst, lt_of_lt_of_le, mul-le-mul_right, mul_assoc, div-lt_iff_lt-mul, add-mul, lt_of_mul-lt-mul_right, mul-lt-mul_of_pos_right, mul-pos, le-div_iff_mul-le, mul-add, mul_right_comm, arith, lit≤, pow_pos, w64, leb→le, eqb→eq, ◌-ℤ◌, eqb, lt_of_not-le}
+use lib.IntN.{◌+ℤ◌, +ℤ_idl}
+use native.Mathlib.Decide.{dec_le}
 use native.Mathlib.Nat.{div-div-eq-div-mul, add-div_right, two-pow-succ}
-use lib.Ieee.{Float, nan, inf, fin, binary64, up, down, lt, ne, add, sum, round, to_unsigned, fits}
-use lib.Ieee.Fits.{down_pos}
+use lib.Ieee.{Float, nan, inf, fin, binary64, up, down, lt, le, eq, add, sum, round, to_unsigned, fits}
+use lib.Ieee.Order.{round_mono}
+use lib.Ieee.Fits.{down_pos, and_r}
 use lib.Ieee.Exact.{HasValue, round_exact}
-use Rattle.binary64.specs.Numbers.{abs, ◌⊕◌}
+use Rattle.std.specs.Float.{float_with_sign}
+use Rattle.std.specs.Int.{saturate_signed}
+use Rattle.binary64.specs.Numbers.{◌⊕◌}
 use Rattle.binary64.specs.Rounding.{quotient_half_up, nearest_capped}
-use Rattle.binary64.proofs.Values.{cut_below, cut_range, revalue, digits, place}
-use Rattle.binary64.proofs.Sizes.{plus_not_below, minus_not_above}
+use Rattle.binary64.proofs.Values.{cut_below, revalue, digits, place}
+use Rattle.binary64.proofs.Sizes.{plus_not_below, minus_not_above, le_form}
 
 -- ---- doubled
 num_is : (m U d L J : ℕ) → U * L ≡ J * d → (m * U * d + m * U * d) * L ≡ m * (J + J) * (d * d)
@@ -89,64 +94,84 @@ capped_rounds x k h w = record { minus = λ p. w.minus p ∙ ap (λ (z : ℕ). n
     under : (k : ℕ) → 2 ^ 63 ≤ k → min k (2 ^ 63 - 1) ≡ 2 ^ 63 - 1
     under k h = omega arith
 
-pub large_rounds : (x : Float) → ne x x ≡ false → lt (abs x) (fin false 1 (pos 63)) ≡ false → Rounds x (2 ^ 63)
-unfolding ne lt abs nearest_capped
-large_rounds nan p h = absurd (subst T p tt)
-large_rounds (inf true) p h = record { minus = λ q. refl; plus = λ q. absurd (subst T q tt) }
-large_rounds (inf false) p h = record { minus = λ q. absurd (subst T (sym q) tt); plus = λ q. refl }
-large_rounds (fin s m e) p h =
-    capped_rounds (fin s m e) (quotient_half_up (m * up e) (down e)) (half_big (m * up e) (down e) (down_pos e) (bound (m * up e) (down e) (ltb-false (m * up e * 1) (1 * 2 ^ 63 * down e) h))) (finite_rounds s m e)
+-- ---- the doubled size cut to a whole number, and capped to u64, as the program does
+abbrev pub doubled : Float → ℕ
+doubled x = to_unsigned 64 (float_with_sign false x ⊕ float_with_sign false x)
+
+from_cap : (y : Float) → T (le (fin false 1 (pos 64)) y) → to_unsigned 64 y ≡ 2 ^ 64 - 1
+unfolding le lt eq to_unsigned
+from_cap nan h = absurd h
+from_cap (inf true) h = absurd h
+from_cap (inf false) h = refl
+from_cap (fin true m e) h = absurd (none (down e) (down_pos e) (eqb→eq (1 * 2 ^ 64 * down e) 0 (and_r (eqb (1 * 2 ^ 64 * down e) (m * up e * 1)) (eqb (1 * 2 ^ 64 * down e) 0) h)))
   where
-    bound : (n d : ℕ) → 1 * 2 ^ 63 * d ≤ n * 1 → 2 ^ 63 * d ≤ n
-    bound n d h = omega arith
+    none : (d : ℕ) → 0 < d → 1 * 2 ^ 64 * d ≡ 0 → ⊥
+    none d D h = omega arith
+from_cap (fin false m e) h = cap (m * up e / down e) ((le-div_iff_mul-le (down_pos e)).1 (over (m * up e) (down e) (leb→le (1 * 2 ^ 64 * down e) (m * up e * 1) (subst T (le_form (1 * 2 ^ 64 * down e) (m * up e * 1)) h))))
+  where
+    over : (n d : ℕ) → 1 * 2 ^ 64 * d ≤ n * 1 → 2 ^ 64 * d ≤ n
+    over n d h = omega arith
 
--- ---- a size below 2 ^ 63: by the doubled size
-pub record Small (x : Float) : Type 0 where
-  pub n : ℕ
-  pub d : ℕ
-  pub d_pos : 0 < d
-  pub under : n < 2 ^ 63 * d
-  pub doubled : HasValue (abs x ⊕ abs x) false (n * 2) d
-  pub rounds : Rounds x (quotient_half_up n d)
+    cap : (q : ℕ) → 2 ^ 64 ≤ q → min q (2 ^ 64 - 1) ≡ 2 ^ 64 - 1
+    cap q h = omega arith
 
+-- a size of 2 ^ 63 or more
+doubled_large : (s : Bool) (m : ℕ) (e : ℤ) → 2 ^ 63 * down e ≤ m * up e → doubled (fin s m e) ≡ 2 ^ 64 - 1
+unfolding float_with_sign add sum
+doubled_large s m e h =
+    let d = down e in
+    let A = m * up e * d in
+    from_cap (round binary64 false (A + A) (d * d)) (subst (λ (y : Float). T (le y (round binary64 false (A + A) (d * d)))) (unfold round in refl) (round_mono binary64 (2 ^ 64) 1 (A + A) (d * d) (pow_pos 0) (mul-pos (down_pos e) (down_pos e)) (twice d (2 ^ 63 * d * d) A (order d) (mul-le-mul_right d h))))
+  where
+    order : (d : ℕ) → 2 ^ 63 * d * d ≡ 2 ^ 63 * (d * d)
+    order d = mul_assoc (2 ^ 63) d d
+
+    twice : (d P A : ℕ) → P ≡ 2 ^ 63 * (d * d) → P ≤ A → 2 ^ 64 * (d * d) ≤ (A + A) * 1
+    twice d P A e h = omega arith
+
+-- a size below it
 same_fits : (s : Bool) (m : ℕ) (e : ℤ) → T (fits binary64 (fin s m e)) → T (fits binary64 (fin false m e))
 unfolding fits
 same_fits s zero e t = t
 same_fits s (suc m) e t = t
 
-wide : (n d : ℕ) → 0 < d → n < 2 ^ 63 * d → n * 2 < 2 ^ 1024 * d
-wide n d D h = lt_of_lt_of_le (more n d h) (mul-le-mul_right d (lit≤ {m = 2 ^ 64} {n = 2 ^ 1024} tt))
+doubled_small : (s : Bool) (m : ℕ) (e : ℤ) → T (fits binary64 (fin s m e)) → m * up e < 2 ^ 63 * down e → doubled (fin s m e) ≡ m * up e * 2 / down e
+unfolding float_with_sign
+doubled_small s m e t h = cut_below (fin false m e ⊕ fin false m e) (m * up e * 2) (down e) (down_pos e) (double_exact m e (same_fits s m e t) (lt_of_lt_of_le u (mul-le-mul_right (down e) (lit≤ {m = 2 ^ 64} {n = 2 ^ 1024} tt)))) u
   where
-    more : (n d : ℕ) → n < 2 ^ 63 * d → n * 2 < 2 ^ 64 * d
-    more n d h = omega arith
+    few : (n d : ℕ) → n < 2 ^ 63 * d → n * 2 < 2 ^ 64 * d
+    few n d h = omega arith
 
-pub small_rounds : (x : Float) → T (fits binary64 x) → lt (abs x) (fin false 1 (pos 63)) ≡ true → Small x
-unfolding lt abs
-small_rounds nan t h = absurd (subst T (sym h) tt)
-small_rounds (inf s) t h = absurd (subst T (sym h) tt)
-small_rounds (fin s m e) t h =
-    let u : m * up e < 2 ^ 63 * down e = bound (m * up e) (down e) (ltb-true (m * up e * 1) (1 * 2 ^ 63 * down e) h) in record {
-      n = m * up e;
-      d = down e;
-      d_pos = down_pos e;
-      under = u;
-      doubled = double_exact m e (same_fits s m e t) (wide (m * up e) (down e) (down_pos e) u);
-      rounds = finite_rounds s m e;
-    }
+    u : m * up e * 2 < 2 ^ 64 * down e
+    u = few (m * up e) (down e) h
+
+nan_rounds : Rounds nan (doubled nan / 2 + doubled nan % 2)
+unfolding lt float_with_sign add to_unsigned nearest_capped
+nan_rounds = record { minus = λ q. absurd (subst T (sym q) tt); plus = λ q. refl }
+
+inf_rounds : (s : Bool) → Rounds (inf s) (doubled (inf s) / 2 + doubled (inf s) % 2)
+unfolding lt float_with_sign add to_unsigned nearest_capped
+inf_rounds true = record { minus = λ q. refl; plus = λ q. absurd (subst T q tt) }
+inf_rounds false = record { minus = λ q. absurd (subst T (sym q) tt); plus = λ q. refl }
+
+rounds : (x : Float) → T (fits binary64 x) → Rounds x (doubled x / 2 + doubled x % 2)
+rounds nan t = nan_rounds
+rounds (inf s) t = inf_rounds s
+rounds (fin s m e) t = elim (dec_le (2 ^ 63 * down e) (m * up e)) [
+  | yes h ↦ subst (λ (z : ℕ). Rounds (fin s m e) (z / 2 + z % 2)) (sym (doubled_large s m e h)) (capped_rounds (fin s m e) (quotient_half_up (m * up e) (down e)) (half_big (m * up e) (down e) (down_pos e) h) (finite_rounds s m e))
+  | no h ↦ subst (Rounds (fin s m e)) (half_up (m * up e) (down e) (down_pos e) ∙ ap (λ (z : ℕ). z / 2 + z % 2) (sym (doubled_small s m e t (lt_of_not-le h)))) (finite_rounds s m e)
+]
+
+-- ---- the sign put back
+pub nearest_minus : (x : Float) → T (fits binary64 x) → lt x (fin false 0 (pos 0)) ≡ true → saturate_signed w64 (pos 0 -ℤ pos (doubled x / 2 + doubled x % 2)) ≡ nearest_capped x
+nearest_minus x t h = let k = doubled x / 2 + doubled x % 2 in ap (saturate_signed w64) (+ℤ_idl (neg_ℤ (pos k))) ∙ capped k ∙ sym ((rounds x t).minus h)
   where
-    bound : (n d : ℕ) → n * 1 < 1 * 2 ^ 63 * d → n < 2 ^ 63 * d
-    bound n d h = omega arith
+    capped : (k : ℕ) → saturate_signed w64 (neg_ℤ (pos k)) ≡ neg_ℤ (pos (min k (2 ^ 63)))
+    capped zero = refl
+    capped (suc k) = ap (λ (z : ℕ). neg_ℤ (pos z)) (one_more k)
+      where
+        one_more : (k : ℕ) → suc (min k (2 ^ 63 - 1)) ≡ min (suc k) (2 ^ 63)
+        one_more k = omega arith
 
-module _ (x : Float) (w : Small x) where
-  few : w.n * 2 < 2 ^ 64 * w.d
-  few = go w.n w.d w.under
-    where
-      go : (n d : ℕ) → n < 2 ^ 63 * d → n * 2 < 2 ^ 64 * d
-      go n d h = omega arith
-
-  pub in_cut_range : T (lt (fin true 1 (pos 0)) (abs x ⊕ abs x)) × T (lt (abs x ⊕ abs x) (fin false 1 (pos 64)))
-  in_cut_range = cut_range (abs x ⊕ abs x) (w.n * 2) w.d w.d_pos w.doubled few
-
-  pub rounds_of_cut : (t : ℕ) → t ≡ to_unsigned 64 (abs x ⊕ abs x) → Rounds x (t / 2 + t % 2)
-  rounds_of_cut t e =
-      subst (Rounds x) (half_up w.n w.d w.d_pos ∙ ap (λ (z : ℕ). z / 2 + z % 2) (sym (e ∙ cut_below (abs x ⊕ abs x) (w.n * 2) w.d w.d_pos w.doubled few))) w.rounds
+pub nearest_plus : (x : Float) → T (fits binary64 x) → lt x (fin false 0 (pos 0)) ≡ false → saturate_signed w64 (pos 0 +ℤ pos (doubled x / 2 + doubled x % 2)) ≡ nearest_capped x
+nearest_plus x t h = ap (saturate_signed w64) (+ℤ_idl (pos (doubled x / 2 + doubled x % 2))) ∙ sym ((rounds x t).plus h)

@@ -12,5 +12,6 @@ pub mod WholeRoots
 pub mod RoundedRoots
 pub mod Patterns
 pub mod NearestRoot
+pub mod LibraryRoot
 pub mod SquareRoots
 pub mod Shapes

@@ -132,15 +132,15 @@ module _ (U M t R : ℕ) (W : U * 2 ^ 126 ≡ M * 2 ^ 54 * 4 ^ t) (lo : 2 ^ 52 �
       near (suc k) K Y l h = let e : suc k - 1 ≡ k = omega arith in subst (λ (z : ℕ). suc k * K + Y ≤ (z * 2 + 1) * K) (sym e) (omega arith)
 
 -- ---- any number above zero, times 4 ^ 600, is M * 2 ^ 54 * 4 ^ t with an M of 53 or 54 digits
-record Even (N : ℕ) : Type 0 where
-  M : ℕ
-  t : ℕ
-  same : N ≡ M * 2 ^ 54 * 4 ^ t
-  lo : 2 ^ 52 ≤ M
-  hi : M < 2 ^ 54
-  far : t ≤ 1100
+pub record Even (N : ℕ) : Type 0 where
+  pub M : ℕ
+  pub t : ℕ
+  pub same : N ≡ M * 2 ^ 54 * 4 ^ t
+  pub lo : 2 ^ 52 ≤ M
+  pub hi : M < 2 ^ 54
+  pub far : t ≤ 1100
 
-even : (m e : ℕ) → m < 2 ^ 53 → 2 ^ 126 ≤ m * 2 ^ e → e ≤ 2171 → Even (m * 2 ^ e)
+pub even : (m e : ℕ) → m < 2 ^ 53 → 2 ^ 126 ≤ m * 2 ^ e → e ≤ 2171 → Even (m * 2 ^ e)
 even m e h l f =
     let N = m * 2 ^ e in
     let z = size N in

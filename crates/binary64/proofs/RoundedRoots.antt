@@ -1,13 +1,13 @@
 -- The rounded root from a root of 54 binary digits: with R the root of M * 4 ^ 27, the root of M * 4 ^ h / 4 ^ 600 rounds to (R + 1) / 2, cut, times 2 ^ (h - 626).
 -- No number is halfway between two floats: an odd R is no exact root. Assumes nothing.
-use Rattle.std.proofs.Common.{◌≡◌, ℕ, zero, suc, ◌+◌, ◌-◌, ◌*◌, ◌/◌, ◌%◌, ◌^◌, ◌<◌, ◌≤◌, Bool, true, false, cond, not, T, eqb, sym, refl, ap, ◌∙◌, subst, inl, inr, le_trans, le_of_eq, lt_of_lt_of_le, lt_of_le_of_lt, mul-le-mul_right, mul_assoc, eq-zero-or-pos, le_antisymm, mul-lt-mul_of_pos_right, mul-pos, pow-suc, lt_of_not-le, not-le_of_lt, mul-div_cancel, mul_left_comm, arith, eqb→eq, leb→le, pow_pos, pow_mono, pow-add}
+use Rattle.std.proofs.Common.{◌≡◌, ℕ, zero, suc, ◌+◌, ◌-◌, ◌*◌, ◌/◌, ◌%◌, ◌^◌, ◌<◌, ◌≤◌, Bool, true, false, cond, not, T, eqb, sym, refl, ap, ◌∙◌, subst, inl, inr, le_trans, le_of_eq, lt_of_lt_of_le, lt_of_le_of_lt, mul-le-mul_right, mul_assoc, eq-zero-or-pos, le_antisymm, mul-lt-mul_of_pos_right, mul-pos, pow-suc, lt_of_not-le, not-le_of_lt, mul-div_cancel, mul_left_comm, arith, eqb→eq, leb→le, pow_pos, pow_mono, pow-add, mul_comm, mul_right_comm, le-div_iff_mul-le, div-lt_iff_lt-mul}
 use Prim.Native.Nat.{compare, Ordering}
 use native.Mathlib.Nat.{mul-mul-mul_comm, eq_of_mul-eq-mul_right}
-use lib.Dec as Dec
 use lib.Dec.{is_le, compare_is_eq, nleb→lt}
 use lib.Pow.{pow-lt}
 use lib.Arith.{digits_div, digits_mod}
-use lib.Ieee.{Float, binary64, size, nearest, units, round}
+use lib.Ieee.{Float, binary64, size, nearest, units, round, root_below, root_twice}
+use lib.Ieee.Root.{whole_part}
 use lib.Ieee.Digits.{size-lt, size-le}
 use lib.Ieee.Fits.{core, round_is}
 use lib.Ieee.Exact.{HasValue, units_val}
@@ -96,48 +96,42 @@ size_is x k lo hi = le_antisymm (size-le x (k + 1) hi) (up (size x) k (lt_of_not
     up : (z k : ℕ) → k < z → k + 1 ≤ z
     up z k h = omega arith
 
--- ---- a / 2 ^ 601 rounded, for an a of t + 55 digits
-module _ (a t q : ℕ) (lo : 2 ^ (54 + t) ≤ a) (hi : a < 2 ^ (55 + t)) (T : t ≤ 1100) (near : closest a (2 ^ t * 4) ≡ q) (small : q ≤ 2 ^ 53) where
-  whole_is : a * 2 ^ 1074 / 2 ^ 601 ≡ a * 2 ^ 473
-  whole_is = ap (λ (z : ℕ). z / 2 ^ 601) (sym (mul_assoc a (2 ^ 473) (2 ^ 601))) ∙ mul-div_cancel (a * 2 ^ 473) (pow_pos 601)
-
-  size_at : size (a * 2 ^ 473) ≡ t + 527 + 1
-  size_at = size_is (a * 2 ^ 473) (t + 527)
-      (le_trans (le_of_eq (ap (λ (z : ℕ). 2 ^ z) (places t) ∙ pow-add 2 (54 + t) 473)) (mul-le-mul_right (2 ^ 473) lo))
-      (lt_of_lt_of_le (mul-lt-mul_of_pos_right hi (pow_pos 473)) (le_of_eq (sym (ap (λ (z : ℕ). 2 ^ z) (places' t) ∙ pow-add 2 (55 + t) 473))))
+-- ---- a / 2 ^ E rounded, for an a of t + 55 digits: q times 2 ^ k units
+module _ (a t E k q : ℕ) (at : k + E ≡ t + 1076) (K : k ≤ 2000) (lo : 2 ^ (54 + t) ≤ a) (hi : a < 2 ^ (55 + t)) (near : closest a (2 ^ t * 4) ≡ q) (small : q ≤ 2 ^ 53) where
+  size_at : size (a * 2 ^ 1074 / 2 ^ E) ≡ k + 52 + 1
+  size_at = size_is (a * 2 ^ 1074 / 2 ^ E) (k + 52)
+      ((le-div_iff_mul-le (pow_pos E)).1 (le_trans (le_of_eq (sym (pow-add 2 (k + 52) E) ∙ ap (λ (z : ℕ). 2 ^ z) (places k E t at) ∙ pow-add 2 (54 + t) 1074)) (mul-le-mul_right (2 ^ 1074) lo)))
+      ((div-lt_iff_lt-mul (pow_pos E)).1 (lt_of_lt_of_le (mul-lt-mul_of_pos_right hi (pow_pos 1074)) (le_of_eq (sym (sym (pow-add 2 (k + 52 + 1) E) ∙ ap (λ (z : ℕ). 2 ^ z) (places' k E t at) ∙ pow-add 2 (55 + t) 1074)))))
     where
-      places : (t : ℕ) → t + 527 ≡ 54 + t + 473
-      places t = omega arith
+      places : (k E t : ℕ) → k + E ≡ t + 1076 → k + 52 + E ≡ 54 + t + 1074
+      places k E t h = omega arith
 
-      places' : (t : ℕ) → t + 527 + 1 ≡ 55 + t + 473
-      places' t = omega arith
+      places' : (k E t : ℕ) → k + E ≡ t + 1076 → k + 52 + 1 + E ≡ 55 + t + 1074
+      places' k E t h = omega arith
 
-  dropped : size (a * 2 ^ 1074 / 2 ^ 601) - 53 ≡ t + 475
-  dropped = ap (λ (z : ℕ). size z - 53) whole_is ∙ ap (λ (z : ℕ). z - 53) size_at ∙ left t
-    where
-      left : (t : ℕ) → t + 527 + 1 - 53 ≡ t + 475
-      left t = omega arith
-
-  same_fraction : closest (a * 2 ^ 1074) (2 ^ 601 * 2 ^ (t + 475)) ≡ q
+  same_fraction : closest (a * 2 ^ 1074) (2 ^ E * 2 ^ k) ≡ q
   same_fraction =
-      closest_same (a * 2 ^ 1074) (2 ^ 601 * 2 ^ (t + 475)) a (2 ^ t * 4) (mul-pos (pow_pos 601) (pow_pos (t + 475))) (mul-pos (pow_pos t) (pow_pos 2))
-      (mul_assoc a (2 ^ 1074) (2 ^ t * 4) ∙ ap (λ (z : ℕ). a * z) (mul_left_comm (2 ^ 1074) (2 ^ t) 4 ∙ sym (ap (λ (z : ℕ). 2 ^ 601 * z) (pow-add 2 t 475) ∙ mul_left_comm (2 ^ 601) (2 ^ t) (2 ^ 475))))
+      closest_same (a * 2 ^ 1074) (2 ^ E * 2 ^ k) a (2 ^ t * 4) (mul-pos (pow_pos E) (pow_pos k)) (mul-pos (pow_pos t) (pow_pos 2))
+      (mul_assoc a (2 ^ 1074) (2 ^ t * 4) ∙ ap (λ (z : ℕ). a * z) (mul_left_comm (2 ^ 1074) (2 ^ t) 4 ∙ sym (pow-add 2 t 1076) ∙ ap (λ (z : ℕ). 2 ^ z) (sym at) ∙ pow-add 2 k E ∙ mul_comm (2 ^ k) (2 ^ E)))
       ∙ near
 
-  rounds_to : round binary64 false a (2 ^ 601) ≡ units binary64 false q (t + 475)
+  rounds_to : round binary64 false a (2 ^ E) ≡ units binary64 false q k
   rounds_to =
-      round_is binary64 false a (2 ^ 601)
-      ∙ ap (λ (k : ℕ). core binary64 false (a * 2 ^ 1074) (2 ^ 601) k) dropped
-      ∙ ap (λ (z : ℕ). units binary64 false z (t + 475)) same_fraction
-
-  within : q * 2 ^ (t + 475) < 2 ^ (1074 + 1024)
-  within = lt_of_le_of_lt (mul-le-mul_right (2 ^ (t + 475)) small) (lt_of_le_of_lt (le_of_eq (sym (pow-add 2 53 (t + 475)))) (pow-lt (far t T)))
+      round_is binary64 false a (2 ^ E)
+      ∙ ap (λ (z : ℕ). core binary64 false (a * 2 ^ 1074) (2 ^ E) z) (ap (λ (z : ℕ). z - 53) size_at ∙ left k)
+      ∙ ap (λ (z : ℕ). units binary64 false z k) same_fraction
     where
-      far : (t : ℕ) → t ≤ 1100 → 53 + (t + 475) < 1074 + 1024
-      far t h = omega arith
+      left : (k : ℕ) → k + 52 + 1 - 53 ≡ k
+      left k = omega arith
 
-  pub round_at : HasValue (round binary64 false a (2 ^ 601)) false (q * 2 ^ (t + 475)) (2 ^ 1074)
-  round_at = subst (λ (x : Float). HasValue x false (q * 2 ^ (t + 475)) (2 ^ 1074)) (sym rounds_to) (units_val binary64 false q (t + 475) within)
+  within : q * 2 ^ k < 2 ^ (1074 + 1024)
+  within = lt_of_le_of_lt (mul-le-mul_right (2 ^ k) small) (lt_of_le_of_lt (le_of_eq (sym (pow-add 2 53 k))) (pow-lt (far k K)))
+    where
+      far : (k : ℕ) → k ≤ 2000 → 53 + k < 1074 + 1024
+      far k h = omega arith
+
+  round_at : HasValue (round binary64 false a (2 ^ E)) false (q * 2 ^ k) (2 ^ 1074)
+  round_at = subst (λ (x : Float). HasValue x false (q * 2 ^ k) (2 ^ 1074)) (sym rounds_to) (units_val binary64 false q k within)
 
 -- ---- the rounded root
 pub four_pow : (t : ℕ) → 4 ^ t ≡ 2 ^ t * 2 ^ t
@@ -164,40 +158,14 @@ module _ (M R : ℕ) (lo : 2 ^ 52 ≤ M) (hi : M < 2 ^ 54) (is : IsRoot (M * 2 ^
       go : (R : ℕ) → R < 2 ^ 54 → R / 2 + R % 2 ≤ 2 ^ 53
       go R h = omega arith
 
--- W * d ≡ n * 4 ^ 600 says that n / d is W / 4 ^ 600
-module _ (n d M t R : ℕ) (D : 0 < d) (W : M * 2 ^ 54 * 4 ^ t * d ≡ n * 4 ^ 600) (lo : 2 ^ 52 ≤ M) (hi : M < 2 ^ 54) (far : t ≤ 1100) (is : IsRoot (M * 2 ^ 54) R) where
-  cut : n * 4 ^ 600 / d ≡ M * 2 ^ 54 * 4 ^ t
-  cut = ap (λ (z : ℕ). z / d) (sym W) ∙ mul-div_cancel (M * 2 ^ 54 * 4 ^ t) D
+-- std's root of a whole number
+library_root : (n : ℕ) → IsRoot n (root_below (size n) n)
+library_root n = let w = whole_part n in record { low = w.0; high = w.1 }
 
-  r : ℕ
-  r = root (n * 4 ^ 600 / d)
-
-  r_is : IsRoot (M * 2 ^ 54 * (2 ^ t * 2 ^ t)) r
-  unfolding r
-  r_is = subst (λ (z : ℕ). IsRoot z (root (n * 4 ^ 600 / d))) (cut ∙ ap (λ (z : ℕ). M * 2 ^ 54 * z) (four_pow t)) (root_is (n * 4 ^ 600 / d))
-
+-- ---- r is the root of N, and s tells whether it is all of it; N is M * 2 ^ 54, whose root is R, with t more pairs of digits
+module _ (N M t R r s : ℕ) (W : N ≡ M * 2 ^ 54 * (2 ^ t * 2 ^ t)) (lo : 2 ^ 52 ≤ M) (hi : M < 2 ^ 54) (is : IsRoot (M * 2 ^ 54) R) (r_is : IsRoot N r) (s_le : s ≤ 1) (s_zero : s ≡ 0 → r * r ≡ N) where
   parts : Longer R (2 ^ t) r
-  parts = longer (M * 2 ^ 54) (2 ^ t) R r (pow_pos t) is r_is
-
-  s : ℕ
-  unfolding r
-  s = cond (eqb (r * r * d) (n * 4 ^ 600)) 0 1
-
-  s_le : s ≤ 1
-  unfolding s
-  s_le = go (eqb (r * r * d) (n * 4 ^ 600))
-    where
-      go : (b : Bool) → cond b 0 1 ≤ 1
-      go true = omega arith
-      go false = omega arith
-
-  s_zero : s ≡ 0 → r * r ≡ M * 2 ^ 54 * (2 ^ t * 2 ^ t)
-  unfolding s
-  s_zero = go (eqb (r * r * d) (n * 4 ^ 600)) (λ k. eq_of_mul-eq-mul_right d D (r * r) (M * 2 ^ 54 * (2 ^ t * 2 ^ t)) (eqb→eq (r * r * d) (n * 4 ^ 600) k ∙ sym W ∙ ap (λ (z : ℕ). M * 2 ^ 54 * z * d) (four_pow t)))
-    where
-      go : (b : Bool) → (Dec.T b → r * r ≡ M * 2 ^ 54 * (2 ^ t * 2 ^ t)) → ◌≡◌ {A = ℕ} (cond b 0 1) 0 → r * r ≡ M * 2 ^ 54 * (2 ^ t * 2 ^ t)
-      go true f e = f tt
-      go false f e = omega arith
+  parts = longer (M * 2 ^ 54) (2 ^ t) R r (pow_pos t) is (subst (λ (z : ℕ). IsRoot z r) W r_is)
 
   -- an odd R is no exact root, since M * 2 ^ 54 is even
   no_tie : R % 2 ≡ 1 → 0 < parts.rest + s
@@ -215,7 +183,7 @@ module _ (n d M t R : ℕ) (D : 0 < d) (W : M * 2 ^ 54 * 4 ^ t * d ≡ n * 4 ^ 6
       exact : parts.rest + s ≡ 0 → R * R * (2 ^ t * 2 ^ t) ≡ M * 2 ^ 54 * (2 ^ t * 2 ^ t)
       exact z =
           let e : r ≡ R * 2 ^ t = parts.is ∙ ap (λ (k : ℕ). R * 2 ^ t + k) (both_l parts.rest s z) ∙ drop0 (R * 2 ^ t) in
-          sym (mul-mul-mul_comm R (2 ^ t) R (2 ^ t)) ∙ sym (ap (λ (k : ℕ). k * k) e) ∙ s_zero (both_r parts.rest s z)
+          sym (mul-mul-mul_comm R (2 ^ t) R (2 ^ t)) ∙ sym (ap (λ (k : ℕ). k * k) e) ∙ s_zero (both_r parts.rest s z) ∙ W
 
       halves : (R : ℕ) → R % 2 ≡ 1 → R ≡ R / 2 * 2 + 1
       halves R o = omega arith
@@ -238,6 +206,70 @@ module _ (n d M t R : ℕ) (D : 0 < d) (W : M * 2 ^ 54 * 4 ^ t * d ≡ n * 4 ^ 6
   near : closest (r * 2 + s) (2 ^ t * 4) ≡ R / 2 + R % 2
   near = ap (λ (z : ℕ). closest (z * 2 + s) (2 ^ t * 4)) parts.is ∙ closest_half R (2 ^ t) parts.rest s parts.rest_lt s_le no_tie
 
+  -- rounded at E places: the value does not turn on how many places the root was taken to
+  longer_value : (E k : ℕ) → k + E ≡ t + 1076 → k ≤ 2000 → HasValue (round binary64 false (r * 2 + s) (2 ^ E)) false ((R / 2 + R % 2) * 2 ^ k) (2 ^ 1074)
+  longer_value E k at K = round_at (r * 2 + s) t E k (R / 2 + R % 2) at K a_lo a_hi near (half_hi M R lo hi is)
+
+-- a last digit that is 0 only where a ≡ b
+last_le : (a b : ℕ) → cond (eqb a b) 0 1 ≤ 1
+last_le a b = go (eqb a b)
+  where
+    go : (c : Bool) → cond c 0 1 ≤ 1
+    go true = omega arith
+    go false = omega arith
+
+last_zero : (a b : ℕ) → ◌≡◌ {A = ℕ} (cond (eqb a b) 0 1) 0 → a ≡ b
+last_zero a b = go (eqb a b) (eqb→eq a b)
+  where
+    go : (c : Bool) → (T c → a ≡ b) → ◌≡◌ {A = ℕ} (cond c 0 1) 0 → a ≡ b
+    go true f e = f tt
+    go false f e = omega arith
+
+-- ---- W * d ≡ n * 4 ^ 600 says that n / d is W / 4 ^ 600
+module _ (n d M t R : ℕ) (D : 0 < d) (W : M * 2 ^ 54 * 4 ^ t * d ≡ n * 4 ^ 600) (lo : 2 ^ 52 ≤ M) (hi : M < 2 ^ 54) (far : t ≤ 1100) (is : IsRoot (M * 2 ^ 54) R) where
+  near_far : t + 475 ≤ 2000
+  near_far = go t far
+    where
+      go : (t : ℕ) → t ≤ 1100 → t + 475 ≤ 2000
+      go t h = omega arith
+
+  -- the definition's root, to 600 places
   pub rounded_value : HasValue (root_rounded n d) false ((R / 2 + R % 2) * 2 ^ (t + 475)) (2 ^ 1074)
-  unfolding root_rounded r s
-  rounded_value = round_at (r * 2 + s) t (R / 2 + R % 2) a_lo a_hi far near (half_hi M R lo hi is)
+  unfolding root_rounded
+  rounded_value =
+      let N = n * 4 ^ 600 / d in
+      let r = root N in
+      let cut : N ≡ M * 2 ^ 54 * 4 ^ t = ap (λ (z : ℕ). z / d) (sym W) ∙ mul-div_cancel (M * 2 ^ 54 * 4 ^ t) D in
+      longer_value N M t R r (cond (eqb (r * r * d) (n * 4 ^ 600)) 0 1) (cut ∙ ap (λ (z : ℕ). M * 2 ^ 54 * z) (four_pow t)) lo hi is (root_is N)
+      (last_le (r * r * d) (n * 4 ^ 600))
+      (λ z. eq_of_mul-eq-mul_right d D (r * r) N (last_zero (r * r * d) (n * 4 ^ 600) z ∙ sym W ∙ ap (λ (x : ℕ). x * d) (sym cut)))
+      601 (t + 475) (places t) near_far
+    where
+      places : (t : ℕ) → t + 475 + 601 ≡ t + 1076
+      places t = omega arith
+
+  -- std's root, to 2271 places
+  pub library_value : HasValue (round binary64 false (root_twice (n * 2 ^ 4542 / d)) (2 ^ 2272)) false ((R / 2 + R % 2) * 2 ^ (t + 475)) (2 ^ 1074)
+  unfolding root_twice
+  library_value =
+      let N = n * 2 ^ 4542 / d in
+      let r = root_below (size N) N in
+      let s = cond (eqb (r * r) N) 0 1 in
+      let D2 = 2 ^ (t + 1671) in
+      let cut : N ≡ M * 2 ^ 54 * (D2 * D2) = ap (λ (z : ℕ). z / d) more ∙ mul-div_cancel (M * 2 ^ 54 * (D2 * D2)) D in
+      subst (λ (z : ℕ). HasValue (round binary64 false (z + s) (2 ^ 2272)) false ((R / 2 + R % 2) * 2 ^ (t + 475)) (2 ^ 1074)) (mul_comm r 2)
+      (longer_value N M (t + 1671) R r s cut lo hi is (library_root N) (last_le (r * r) N) (last_zero (r * r) N) 2272 (t + 475) (places t) near_far)
+    where
+      places : (t : ℕ) → t + 475 + 2272 ≡ t + 1671 + 1076
+      places t = omega arith
+
+      pairs : 4 ^ t * 2 ^ 3342 ≡ 2 ^ (t + 1671) * 2 ^ (t + 1671)
+      pairs = ap (λ (z : ℕ). z * 2 ^ 3342) (four_pow t) ∙ ap (λ (z : ℕ). 2 ^ t * 2 ^ t * z) (pow-add 2 1671 1671) ∙ mul-mul-mul_comm (2 ^ t) (2 ^ t) (2 ^ 1671) (2 ^ 1671) ∙ sym (ap (λ (z : ℕ). z * z) (pow-add 2 t 1671))
+
+      more : n * 2 ^ 4542 ≡ M * 2 ^ 54 * (2 ^ (t + 1671) * 2 ^ (t + 1671)) * d
+      more =
+          ap (λ (z : ℕ). n * z) (pow-add 2 1200 3342)
+          ∙ sym (mul_assoc n (2 ^ 1200) (2 ^ 3342))
+          ∙ ap (λ (z : ℕ). z * 2 ^ 3342) (sym W)
+          ∙ mul_right_comm (M * 2 ^ 54 * 4 ^ t) d (2 ^ 3342)
+          ∙ ap (λ (z : ℕ). z * d) (mul_assoc (M * 2 ^ 54) (4 ^ t) (2 ^ 3342) ∙ ap (λ (z : ℕ). M * 2 ^ 54 * z) pairs)

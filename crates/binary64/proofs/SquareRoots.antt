@@ -11,14 +11,14 @@ use lib.Ieee.Exact.{HasValue, units_val, round_exact}
 use lib.Ieee.Nearest.{closest, closest_same}
 use lib.Ieee.Scale.{round_same}
 use lib.Ieee.Positive.{positive, den, den_pos, between, values_of_le, value→cross, positive_of_value, mul_at}
-use Rattle.binary64.specs.Root.{sqrt_of, root_rounded}
+use Rattle.binary64.specs.Root.{sqrt_of}
 use Rattle.binary64.specs.Constants.{zero64}
 use Rattle.binary64.specs.Numbers.{◌⊕◌, ◌⊗◌, abs}
 use Rattle.binary64.proofs.Order.{holds, never}
 use Rattle.binary64.proofs.Sizes.{zero_digits}
 use Rattle.binary64.proofs.Values.{value_unique, digits, place}
 use Rattle.binary64.proofs.RoundedRoots.{size_is}
-use Rattle.binary64.proofs.Patterns.{mantissa, pattern_of_lem}
+use Rattle.binary64.proofs.Patterns.{mantissa, pattern_of_lem, sqrt_fits}
 use Rattle.binary64.proofs.NearestRoot.{nearest_root, units_of, next_above, next_below}
 
 -- ---- a fraction's nearest whole number is within a half of it
@@ -225,14 +225,6 @@ module _ (K P W : ℕ) (four : W ≡ P * 4 * (K * K)) where
       clash M N e g h = omega arith
 
 -- ---- the root of the square
-sqrt_fits : (x : Float) → T (positive x) → T (fits binary64 (sqrt_of x))
-unfolding sqrt_of root_rounded
-sqrt_fits nan p = absurd p
-sqrt_fits (inf u) p = absurd p
-sqrt_fits (fin true m e) p = absurd p
-sqrt_fits (fin false zero e) p = absurd p
-sqrt_fits (fin false (suc m) e) p = round-fits binary64 false _ _
-
 same_units : (x : Float) (U Y : ℕ) → HasValue x false U (2 ^ 1074) → HasValue x false Y (2 ^ 1074) → U ≡ Y
 same_units x U Y h k = eq_of_mul-eq-mul_right (den x) (den_pos x) U Y (sym (value→cross x U (2 ^ 1074) h) ∙ value→cross x Y (2 ^ 1074) k)
 

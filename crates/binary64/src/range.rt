@@ -5,6 +5,7 @@ ghost use Rattle.binary64.specs.Numbers.{at_most};
 use crate::size::is_within;
 
 // Coordinates, heights, cell sizes and the weld tolerance: at most 2^20.
+#[tactic(auto, using(crate::proofs::Sizes::at_most_is), unfolding(std::specs::Prelude::from_bits))]
 pub fn coordinate_in_range(x: f64) -> bool
     ensures { result ≡ at_most 20 x }
 {
@@ -12,6 +13,7 @@ pub fn coordinate_in_range(x: f64) -> bool
 }
 
 // The cell count's extent: at most 2^21.
+#[tactic(auto, using(crate::proofs::Sizes::at_most_is), unfolding(std::specs::Prelude::from_bits))]
 pub fn extent_in_range(x: f64) -> bool
     ensures { result ≡ at_most 21 x }
 {
@@ -19,6 +21,7 @@ pub fn extent_in_range(x: f64) -> bool
 }
 
 // Heights and thicknesses of the stack: at most 2^19.
+#[tactic(auto, using(crate::proofs::Sizes::at_most_is), unfolding(std::specs::Prelude::from_bits))]
 pub fn figure_in_range(x: f64) -> bool
     ensures { result ≡ at_most 19 x }
 {

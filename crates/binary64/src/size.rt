@@ -4,23 +4,19 @@ ghost use Rattle.std.specs.Float.Ieee.{le};
 ghost use Rattle.binary64.specs.Numbers as numbers;
 
 // The size of x, as Rust's `abs`: a zero loses its sign too.
+#[tactic(auto, using(crate::proofs::Sizes::abs_is))]
 pub fn abs(x: f64) -> f64
     ensures { result ≡ numbers.abs x }
 {
-    if x < 0.0 {
-        return -x;
-    }
-    if x == 0.0 {
-        return 0.0;
-    }
-    x
+    x.abs()
 }
 
-// The size of d is at most e.
+// The size of d is at most e: by two comparisons, which take less than |d| does.
+#[tactic(auto, using(crate::proofs::Sizes::within_abs))]
 pub fn is_within(d: f64, e: f64) -> bool
     ensures { result ≡ le (numbers.abs d) e }
 {
-    if d <= e { d >= -e } else { false }
+    d <= e && d >= -e
 }
 
 // The larger of a and b, and a where they are equal.
