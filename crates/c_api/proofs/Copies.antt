@@ -1,9 +1,12 @@
 -- Bytes copied to a lent list. Assumes nothing.
-use Prim.Native.Nat.{ℕ}
-use mathlib.Core.Path.{◌≡◌, subst}
-use mathlib.Core.List.{List}
-use Rattle.c_api.specs.Given.{Copied}
+use Rattle.std.proofs.Common.{◌≡◌, ℕ, ◌+◌, min, List, ◌++◌, length, take, drop, sym, ap, ◌∙◌, arith}
+use Rattle.std.proofs.lemmas.List.{take_min, length-take}
+use Rattle.lists.specs.Lists.{put}
 
--- what is copied depends on the bytes alone
-pub same_copied : {a b : List ℕ} {r : ℕ} {old new : List ℕ} → a ≡ b → Copied a r old new → Copied b r old new
-same_copied {r = r} {old = old} {new = new} e = subst (λ bytes. Copied bytes r old new) e
+-- as many bytes as both lists hold
+pub cut_copied : (bytes copy part : List ℕ) (n : ℕ) → n ≡ min (length copy) (length bytes) → part ≡ take n bytes → part ++ drop n copy ≡ put copy 0 (take (length copy) bytes)
+unfolding put
+cut_copied bytes copy part n is e =
+    let whole : part ≡ take (length copy) bytes = e ∙ ap (λ (k : ℕ). take k bytes) is ∙ take_min (length copy) bytes in
+    let long : n ≡ 0 + length (take (length copy) bytes) = omega (arith, is, length-take (length copy) bytes) in
+    rw whole (ap (λ (k : ℕ). take (length copy) bytes ++ drop k copy) long)

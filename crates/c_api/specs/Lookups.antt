@@ -1,20 +1,14 @@
 -- What the lookups give back through references: names as places in the lent blocks, and the figures of a stack layer.
-use Rattle.std.specs.Prelude.{ℕ, zero, suc, ◌+◌, ◌≤◌, ◌≡◌, Bool, true, false, List, Float, length}
-use Rattle.std.proofs.Math.Option.{Option, some, none, map}
-use Rattle.lists.specs.Answer.{Answer, refused, given}
+use Rattle.std.specs.Prelude.{ℕ, zero, suc, ◌+◌, ◌≤◌, ◌≡◌, Bool, true, false, List, Float, length, Option, Some, None, option_map}
 use Rattle.lists.specs.Lists.{part}
 use Rattle.binary64.specs.Constants.{zero64}
-use Rattle.openrdson_core.specs.Refusals.{refusal_number}
 use Rattle.openrdson_core.specs.Maps.{start_in_map}
-use Rattle.openrdson_core.specs.Tech.{StackFigures, ViaNames}
-use Rattle.openrdson_core.specs.declared.layout.NamePart.{NamePart}
-use Rattle.openrdson_core.specs.declared.layout.NamePart.TheVariants as named
+use Rattle.openrdson_core.specs.Tech.{ViaNames}
 use Rattle.openrdson_core.specs.declared.maps.Span.{Span}
-use Rattle.openrdson_core.specs.declared.maps.Span.TheVariants as span
 use Rattle.openrdson_core.specs.declared.maps.NamePlace.{NamePlace}
 use Rattle.openrdson_core.specs.declared.maps.NamePlace.TheVariants as place
+use Rattle.openrdson_core.specs.declared.tech.Figures.{Figures}
 use Rattle.openrdson_core.specs.declared.tech.ViaLayers.{ViaLayers}
-use Rattle.openrdson_core.specs.declared.tech.ViaLayers.TheVariants as via
 
 -- ---- a part of a block: a start and a count, both 0 for none
 
@@ -33,23 +27,18 @@ bytes_at block p = part p.start p.count block
 abbrev pub places_in : List ℕ → Places → Type 0
 places_in block p = p.start + p.count ≤ length block
 
-abbrev pub span_places : Span → Places
-span_places (span.Part start count) = the_places start count
-span_places span.Empty = the_places 0 0
+abbrev pub span_places : Option Span → Places
+span_places (Some p) = the_places p.start p.count
+span_places None = the_places 0 0
 
 -- the name stands at the places, which lie in the block and start at `at`
 abbrev pub Stands : List ℕ → Option ℕ → List ℕ → Places → Type 0
-Stands block at name p = (bytes_at block p ≡ name) × places_in block p × (at ≡ some p.start)
+Stands block at name p = (bytes_at block p ≡ name) × places_in block p × (at ≡ Some p.start)
 
 -- the same of a name that may be absent: both numbers are 0 then
 abbrev pub StandsIf : List ℕ → Option ℕ → Option (List ℕ) → Places → Type 0
-StandsIf block at none p = p ≡ the_places 0 0
-StandsIf block at (some name) p = Stands block at name p
-
-abbrev pub part_answer : NamePart → Answer Places
-part_answer (named.Part start count) = given (the_places start count)
-part_answer named.Nothing = given (the_places 0 0)
-part_answer (named.Refused why) = refused (refusal_number why)
+StandsIf block at None p = p ≡ the_places 0 0
+StandsIf block at (Some name) p = Stands block at name p
 
 -- ---- a physical name: block 0 none, 1 the conducting map, 2 the via map
 
@@ -64,19 +53,18 @@ the_name b s n = record { block = b; places = the_places s n }
 abbrev pub StandsIn : List ℕ → List ℕ → List ℕ → List ℕ → ℕ → Places → Type 0
 StandsIn conducting via asked name zero p = ⊥
 StandsIn conducting via asked name (suc zero) p = Stands conducting (start_in_map conducting asked) name p
-StandsIn conducting via asked name (suc (suc zero)) p = (start_in_map conducting asked ≡ none) × Stands via (start_in_map via asked) name p
+StandsIn conducting via asked name (suc (suc zero)) p = (start_in_map conducting asked ≡ None) × Stands via (start_in_map via asked) name p
 StandsIn conducting via asked name (suc (suc (suc n))) p = ⊥
 
 -- all numbers are 0 for none
 abbrev pub NameStands : List ℕ → List ℕ → List ℕ → Option (List ℕ) → NameAt → Type 0
-NameStands conducting via asked none a = a ≡ the_name 0 0 0
-NameStands conducting via asked (some name) a = StandsIn conducting via asked name a.block a.places
+NameStands conducting via asked None a = a ≡ the_name 0 0 0
+NameStands conducting via asked (Some name) a = StandsIn conducting via asked name a.block a.places
 
-abbrev pub name_answer : NamePlace → Answer NameAt
-name_answer (place.Conducting start count) = given (the_name 1 start count)
-name_answer (place.Via start count) = given (the_name 2 start count)
-name_answer place.Nothing = given (the_name 0 0 0)
-name_answer (place.Refused why) = refused (refusal_number why)
+abbrev pub name_given : Option NamePlace → NameAt
+name_given (Some (place.Conducting p)) = the_name 1 p.start p.count
+name_given (Some (place.Via p)) = the_name 2 p.start p.count
+name_given None = the_name 0 0 0
 
 -- ---- a stack layer: an absent figure is 0, and so are both where no layer is found
 
@@ -88,8 +76,8 @@ abbrev pub the_figure : Bool → Float → FigureGiven
 the_figure p x = record { present = p; figure = x }
 
 abbrev pub figure_given : Option Float → FigureGiven
-figure_given none = the_figure false zero64
-figure_given (some x) = the_figure true x
+figure_given None = the_figure false zero64
+figure_given (Some x) = the_figure true x
 
 pub record LayerGiven : Type 0 where
   pub found : Bool
@@ -99,9 +87,9 @@ pub record LayerGiven : Type 0 where
 abbrev pub the_layer : Bool → FigureGiven → FigureGiven → LayerGiven
 the_layer f h t = record { found = f; height = h; thickness = t }
 
-abbrev pub layer_given : Option StackFigures → LayerGiven
-layer_given none = the_layer false (the_figure false zero64) (the_figure false zero64)
-layer_given (some l) = the_layer true (figure_given l.height) (figure_given l.thickness)
+abbrev pub layer_given : Option Figures → LayerGiven
+layer_given None = the_layer false (the_figure false zero64) (the_figure false zero64)
+layer_given (Some l) = the_layer true (figure_given l.height) (figure_given l.thickness)
 
 -- ---- a via's layers, as places in the vias block
 
@@ -115,10 +103,9 @@ the_via f b t = record { found = f; bottom = b; top = t }
 
 -- the layers of a via, the top's 32 bytes past the bottom's; all numbers are 0 where there is none
 abbrev pub ViaStands : List ℕ → Option ℕ → Option ViaNames → ViaAt → Type 0
-ViaStands vias at none v = v ≡ the_via false (the_places 0 0) (the_places 0 0)
-ViaStands vias at (some names) v = (v.found ≡ true) × StandsIf vias at names.bottom v.bottom × StandsIf vias (map (λ k. k + 32) at) names.top v.top
+ViaStands vias at None v = v ≡ the_via false (the_places 0 0) (the_places 0 0)
+ViaStands vias at (Some names) v = (v.found ≡ true) × StandsIf vias at names.bottom v.bottom × StandsIf vias (option_map (λ k. k + 32) at) names.top v.top
 
-abbrev pub via_answer : ViaLayers → Answer ViaAt
-via_answer (via.Found b t) = given (the_via true (span_places b) (span_places t))
-via_answer via.Nothing = given (the_via false (the_places 0 0) (the_places 0 0))
-via_answer (via.Refused why) = refused (refusal_number why)
+abbrev pub via_given : Option ViaLayers → ViaAt
+via_given (Some l) = the_via true (span_places l.bottom) (span_places l.top)
+via_given None = the_via false (the_places 0 0) (the_places 0 0)

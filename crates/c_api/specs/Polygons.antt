@@ -4,7 +4,8 @@ use Rattle.lists.specs.Answer.{Answer, map_answer, left}
 use Rattle.lists.specs.Lists.{put}
 use Rattle.meshing.specs.Ring.{dedup_ring, gathered}
 use Rattle.meshing.specs.Triangles.{corners}
-use Rattle.meshing.specs.Triangulate.{Cutting}
+use Rattle.meshing.specs.Triangulate.{Cutting, numbers}
+use Rattle.meshing.specs.declared.triangulate.Triangulation.{Triangulation}
 use Rattle.c_api.specs.Given.{Given}
 
 pub record GivenRing (xs ys ox oy : List Float) (r n n' : ℕ) (ox' oy' : List Float) : Type 0 where
@@ -13,11 +14,11 @@ pub record GivenRing (xs ys ox oy : List Float) (r n n' : ℕ) (ox' oy' : List F
   pub writes_y : oy' ≡ left (map_answer (λ ks. put oy 0 (gathered ys ks)) (dedup_ring xs ys (length ox) (length oy))) oy
 
 -- the numbers of vertices and of triangles
-abbrev pub counts_of : Cutting → ℕ × ℕ
-counts_of c = (length c.ring, length c.triangles)
+abbrev pub the_numbers : ℕ → ℕ → Triangulation
+the_numbers vertices triangles = record { vertices = vertices; triangles = triangles }
 
-pub record GivenTriangles (a : Answer Cutting) (xs ys ox oy : List Float) (cs : List ℕ) (r : ℕ) (n n' : ℕ × ℕ) (ox' oy' : List Float) (cs' : List ℕ) : Type 0 where
-  pub counts : Given (map_answer counts_of a) r n n'
+pub record GivenTriangles (a : Answer Cutting) (xs ys ox oy : List Float) (cs : List ℕ) (r : ℕ) (n n' : Triangulation) (ox' oy' : List Float) (cs' : List ℕ) : Type 0 where
+  pub counts : Given (map_answer numbers a) r n n'
   pub writes_x : ox' ≡ left (map_answer (λ (c : Cutting). put ox 0 (gathered xs c.ring)) a) ox
   pub writes_y : oy' ≡ left (map_answer (λ (c : Cutting). put oy 0 (gathered ys c.ring)) a) oy
   pub writes_corners : cs' ≡ left (map_answer (λ (c : Cutting). put cs 0 (corners c.triangles)) a) cs

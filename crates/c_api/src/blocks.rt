@@ -1,15 +1,13 @@
 // The calls of openrdson_core on name blocks. A name is given as a place in the block it stands in.
-ghost use Rattle.std.specs.Prelude.{◌≡◌};
+ghost use Rattle.std.specs.Prelude.{◌≡◌, is_some};
 ghost use Rattle.lists.specs.Answer.{status, map_answer};
 ghost use Rattle.openrdson_core.specs.Layout.{is_marker, layer_name, start_of_name};
-ghost use Rattle.openrdson_core.specs.Maps.{lookup, is_some, part_of};
+ghost use Rattle.openrdson_core.specs.Maps.{lookup, part_of};
 ghost use Rattle.openrdson_core.specs.Tech.{blocks_fault, material_number, stack_layer, start_of_ends, via_layers};
 ghost use Rattle.c_api.specs.Given.{Copied, Given, GivenAs};
 ghost use Rattle.c_api.specs.Lookups as spec;
 
-use crate::answers::{
-    give_bytes, give_check, give_found, give_layer, give_material, give_name, give_part, give_via,
-};
+use crate::answers::{give, give_bytes, give_check, give_layer, give_name, give_part, give_via};
 
 #[unsafe(no_mangle)]
 pub extern "C" fn openrdson_check_blocks(
@@ -41,7 +39,7 @@ pub extern "C" fn openrdson_look_up(
 ) -> u32
     ensures { Given (map_answer is_some (lookup conducting.now via.now name.now)) result found.old found.new }
 {
-    give_found(openrdson_core::look_up(conducting, via, name), found)
+    give(openrdson_core::look_up(conducting, via, name), found)
 }
 
 #[unsafe(no_mangle)]
@@ -54,10 +52,8 @@ pub extern "C" fn openrdson_material_number(
 ) -> u32
     ensures { Given (material_number conductors.now diffusions.now vias.now name.now) result material.old material.new }
 {
-    give_material(
-        openrdson_core::material_number(conductors, diffusions, vias, name),
-        material,
-    )
+    let found = openrdson_core::material_number(conductors, diffusions, vias, name);
+    give(found.map(|number| number.0), material)
 }
 
 #[unsafe(no_mangle)]

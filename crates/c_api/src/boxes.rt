@@ -1,36 +1,21 @@
 // The calls of meshing on an axis and on a box.
 ghost use Rattle.std.specs.Prelude.{◌≡◌};
 ghost use Rattle.openrdson_core.specs.Mesh.{the_counts, the_mesh};
-ghost use Rattle.meshing.specs.Added.{meshed_answer};
-ghost use Rattle.meshing.specs.Answers.{counted_answer};
+ghost use Rattle.openrdson_core.specs.Answers.{answer};
 ghost use Rattle.meshing.specs.Boxes.{mesh_box};
 ghost use Rattle.meshing.specs.Cells.{axis_coordinate, cell_count};
 ghost use Rattle.c_api.specs.Given.{Given};
 ghost use Rattle.c_api.specs.Meshes.{GivenMesh, the_config};
 
-use crate::answers::give_number;
-use meshing::{Counted, MeshConfig, Meshed};
-use openrdson_core::{Bbox, Counts, Material};
-
-// The number of cells.
-fn give_cells(answer: Counted, cells: &mut usize) -> u32
-    ensures { Given (counted_answer answer) result cells.old cells.new }
-{
-    match answer {
-        Counted::Refused(why) => why.number(),
-        Counted::Cells(count) => {
-            *cells = count;
-            0
-        }
-    }
-}
+use crate::answers::give;
+use meshing::MeshConfig;
+use openrdson_core::{Bbox, Counts, Material, Refusal};
 
 #[unsafe(no_mangle)]
 pub extern "C" fn openrdson_cell_count(extent: f64, cell: f64, cells: &mut usize) -> u32
     ensures { Given (cell_count extent cell) result cells.old cells.new }
 {
-    let counted = meshing::cell_count(extent, cell);
-    give_cells(counted, cells)
+    give(meshing::cell_count(extent, cell), cells)
 }
 
 #[unsafe(no_mangle)]
@@ -43,21 +28,20 @@ pub extern "C" fn openrdson_axis_coordinate(
 ) -> u32
     ensures { Given (axis_coordinate min max cell place) result coordinate.old coordinate.new }
 {
-    let measured = meshing::axis_coordinate(min, max, cell, place);
-    give_number(measured, coordinate)
+    give(meshing::axis_coordinate(min, max, cell, place), coordinate)
 }
 
 // The numbers of nodes and of elements that a mesh has now.
-pub fn give_grown(answer: Meshed, nodes: &mut usize, elements: &mut usize) -> u32
-    ensures { Given (meshed_answer answer) result (the_counts nodes.old elements.old) (the_counts nodes.new elements.new) }
+pub fn give_grown(meshed: Result<Counts, Refusal>, nodes: &mut usize, elements: &mut usize) -> u32
+    ensures { Given (answer meshed) result (the_counts nodes.old elements.old) (the_counts nodes.new elements.new) }
 {
-    match answer {
-        Meshed::Refused(why) => why.number(),
-        Meshed::Done(counts) => {
+    match meshed {
+        Ok(counts) => {
             *nodes = counts.nodes;
             *elements = counts.elements;
             0
         }
+        Err(why) => u32::from(why),
     }
 }
 

@@ -1,24 +1,13 @@
 // The calls of meshing on rings.
 ghost use Rattle.std.specs.Prelude.{◌≡◌, length};
-ghost use Rattle.meshing.specs.Answers.{cleaned_answer};
-ghost use Rattle.meshing.specs.Triangulate.{triangulated_answer, triangulate_polygon};
+ghost use Rattle.meshing.specs.Triangulate.{triangulate_polygon};
 ghost use Rattle.c_api.specs.Given.{Given};
-ghost use Rattle.c_api.specs.Polygons.{GivenRing, GivenTriangles};
+ghost use Rattle.openrdson_core.specs.Answers.{answer};
+ghost use Rattle.c_api.specs.Polygons.{GivenRing, GivenTriangles, the_numbers};
 
-use meshing::{Cleaned, Triangulated};
-
-// The number of points.
-fn give_points(answer: Cleaned, points: &mut usize) -> u32
-    ensures { Given (cleaned_answer answer) result points.old points.new }
-{
-    match answer {
-        Cleaned::Refused(why) => why.number(),
-        Cleaned::Points(count) => {
-            *points = count;
-            0
-        }
-    }
-}
+use crate::answers::give;
+use meshing::Triangulation;
+use openrdson_core::Refusal;
 
 // The call; the number of points is given through the last reference.
 #[unsafe(no_mangle)]
@@ -31,21 +20,24 @@ pub extern "C" fn openrdson_dedup_ring(
 ) -> u32
     ensures { GivenRing xs.now ys.now out_x.old out_y.old result points.old points.new out_x.new out_y.new }
 {
-    let cleaned = meshing::dedup_ring(xs, ys, out_x, out_y);
-    give_points(cleaned, points)
+    give(meshing::dedup_ring(xs, ys, out_x, out_y), points)
 }
 
 // The numbers of vertices and of triangles.
-fn give_counts(answer: Triangulated, vertices: &mut usize, triangles: &mut usize) -> u32
-    ensures { Given (triangulated_answer answer) result (vertices.old, triangles.old) (vertices.new, triangles.new) }
+fn give_counts(
+    triangulated: Result<Triangulation, Refusal>,
+    vertices: &mut usize,
+    triangles: &mut usize,
+) -> u32
+    ensures { Given (answer triangulated) result (the_numbers vertices.old triangles.old) (the_numbers vertices.new triangles.new) }
 {
-    match answer {
-        Triangulated::Refused(why) => why.number(),
-        Triangulated::Counts(points, cut) => {
-            *vertices = points;
-            *triangles = cut;
+    match triangulated {
+        Ok(counts) => {
+            *vertices = counts.vertices;
+            *triangles = counts.triangles;
             0
         }
+        Err(why) => u32::from(why),
     }
 }
 
@@ -60,7 +52,7 @@ pub extern "C" fn openrdson_triangulate_polygon(
     vertices: &mut usize,
     triangles: &mut usize,
 ) -> u32
-    ensures { GivenTriangles (triangulate_polygon xs.now ys.now (length out_x.old) (length out_y.old) (length corners.old)) xs.now ys.now out_x.old out_y.old corners.old result (vertices.old, triangles.old) (vertices.new, triangles.new) out_x.new out_y.new corners.new }
+    ensures { GivenTriangles (triangulate_polygon xs.now ys.now (length out_x.old) (length out_y.old) (length corners.old)) xs.now ys.now out_x.old out_y.old corners.old result (the_numbers vertices.old triangles.old) (the_numbers vertices.new triangles.new) out_x.new out_y.new corners.new }
 {
     let triangulated = meshing::triangulate_polygon(xs, ys, out_x, out_y, corners);
     give_counts(triangulated, vertices, triangles)

@@ -1,16 +1,15 @@
 // The calls of geometry: extruding, and the total volume of a region list. A region is given as its row of a region list.
 ghost use Rattle.std.specs.Prelude.{◌≡◌};
 ghost use Rattle.lists.specs.Answer.{map_answer};
-ghost use Rattle.geometry.specs.Answers.{built_answer};
+ghost use Rattle.openrdson_core.specs.Answers.{answer};
 ghost use Rattle.geometry.specs.Extrude.{extrude_polygon, extrude_box};
 ghost use Rattle.geometry.specs.Regions.{the_regions};
 ghost use Rattle.geometry.specs.Volumes.{total_volume};
 ghost use Rattle.c_api.specs.Given.{Given};
 ghost use Rattle.c_api.specs.Regions as spec;
 
-use crate::answers::give_number;
-use geometry::Built;
-use openrdson_core::{Bbox, Material, Solid};
+use crate::answers::give;
+use openrdson_core::{Bbox, Material, Refusal, Solid, SolidRegion};
 
 // The entries of a solid: a prism's first four bounds and a box's start and count are zero.
 fn give_solid(
@@ -67,7 +66,7 @@ fn give_solid(
 
 // The row of a region.
 fn give_region(
-    answer: Built,
+    built: Result<SolidRegion, Refusal>,
     kind: &mut u8,
     min_x: &mut f64,
     min_y: &mut f64,
@@ -81,11 +80,10 @@ fn give_region(
     net: &mut u32,
     polygon: &mut u32,
 ) -> u32
-    ensures { Given (map_answer spec.row_of (built_answer answer)) result (spec.the_row (spec.the_solid_row kind.old min_x.old min_y.old max_x.old max_y.old z_bottom.old z_top.old start.old count.old) material.old net.old polygon.old) (spec.the_row (spec.the_solid_row kind.new min_x.new min_y.new max_x.new max_y.new z_bottom.new z_top.new start.new count.new) material.new net.new polygon.new) }
+    ensures { Given (map_answer spec.row_of (answer built)) result (spec.the_row (spec.the_solid_row kind.old min_x.old min_y.old max_x.old max_y.old z_bottom.old z_top.old start.old count.old) material.old net.old polygon.old) (spec.the_row (spec.the_solid_row kind.new min_x.new min_y.new max_x.new max_y.new z_bottom.new z_top.new start.new count.new) material.new net.new polygon.new) }
 {
-    match answer {
-        Built::Refused(why) => why.number(),
-        Built::Region(region) => {
+    match built {
+        Ok(region) => {
             *material = region.material_id.0;
             *net = region.net;
             *polygon = region.source_polygon.0;
@@ -95,6 +93,7 @@ fn give_region(
             );
             0
         }
+        Err(why) => u32::from(why),
     }
 }
 
@@ -203,5 +202,5 @@ pub extern "C" fn openrdson_total_volume(
         kinds, min_x, min_y, max_x, max_y, z_bottom, z_top, starts, counts, materials, nets,
         polygons, xs, ys,
     );
-    give_number(total, volume)
+    give(total, volume)
 }

@@ -6,28 +6,28 @@ ghost use Rattle.openrdson_core.specs.Rectangle as rectangles;
 ghost use Rattle.openrdson_core.specs.Bounds as bounds;
 ghost use Rattle.c_api.specs.Given.{Given};
 
-use crate::answers::{give_bounds, give_number, give_truth};
+use crate::answers::{give, give_bounds};
 use openrdson_core::{Bbox, Point};
 
 #[unsafe(no_mangle)]
 pub extern "C" fn openrdson_polygon_signed_area(xs: &[f64], ys: &[f64], area: &mut f64) -> u32
     ensures { Given (of_ring xs.now ys.now (areas.signed_area xs.now ys.now)) result area.old area.new }
 {
-    give_number(openrdson_core::polygon_signed_area(xs, ys), area)
+    give(openrdson_core::polygon_signed_area(xs, ys), area)
 }
 
 #[unsafe(no_mangle)]
 pub extern "C" fn openrdson_polygon_area(xs: &[f64], ys: &[f64], area: &mut f64) -> u32
     ensures { Given (of_ring xs.now ys.now (areas.area xs.now ys.now)) result area.old area.new }
 {
-    give_number(openrdson_core::polygon_area(xs, ys), area)
+    give(openrdson_core::polygon_area(xs, ys), area)
 }
 
 #[unsafe(no_mangle)]
 pub extern "C" fn openrdson_is_ccw(xs: &[f64], ys: &[f64], ccw: &mut bool) -> u32
     ensures { Given (of_ring xs.now ys.now (areas.is_ccw xs.now ys.now)) result ccw.old ccw.new }
 {
-    give_truth(openrdson_core::is_ccw(xs, ys), ccw)
+    give(openrdson_core::is_ccw(xs, ys), ccw)
 }
 
 #[unsafe(no_mangle)]
@@ -38,7 +38,7 @@ pub extern "C" fn openrdson_is_axis_aligned_rectangle(
 ) -> u32
     ensures { Given (of_ring xs.now ys.now (rectangles.is_rectangle xs.now ys.now)) result rectangle.old rectangle.new }
 {
-    give_truth(openrdson_core::is_axis_aligned_rectangle(xs, ys), rectangle)
+    give(openrdson_core::is_axis_aligned_rectangle(xs, ys), rectangle)
 }
 
 #[unsafe(no_mangle)]

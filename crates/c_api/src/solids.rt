@@ -5,7 +5,7 @@ ghost use Rattle.openrdson_core.specs.Solids as solids;
 ghost use Rattle.openrdson_core.specs.declared.solids.Solid.TheVariants.{Box, Prism};
 ghost use Rattle.c_api.specs.Given.{Given};
 
-use crate::answers::{give_bounds, give_number};
+use crate::answers::{give, give_bounds};
 use openrdson_core::{Material, PolygonNumber, Solid, SolidRegion};
 
 // A box, a prism and a region with these numbers.
@@ -59,7 +59,7 @@ pub extern "C" fn openrdson_box_volume(
     ensures { Given (solids.of_solid xs.now ys.now (Box min_x min_y max_x max_y z_bottom z_top) (solids.volume xs.now ys.now (Box min_x min_y max_x max_y z_bottom z_top))) result volume.old volume.new }
 {
     let solid = boxed(min_x, min_y, max_x, max_y, z_bottom, z_top);
-    give_number(solid.volume(xs, ys), volume)
+    give(solid.volume(xs, ys), volume)
 }
 
 #[unsafe(no_mangle)]
@@ -75,7 +75,7 @@ pub extern "C" fn openrdson_prism_volume(
     ensures { Given (solids.of_solid xs.now ys.now (Prism z_bottom z_top start count) (solids.volume xs.now ys.now (Prism z_bottom z_top start count))) result volume.old volume.new }
 {
     let solid = prism(z_bottom, z_top, start, count);
-    give_number(solid.volume(xs, ys), volume)
+    give(solid.volume(xs, ys), volume)
 }
 
 // The volume of a region does not depend on its material, its net and its polygon.
@@ -98,7 +98,7 @@ pub extern "C" fn openrdson_box_region_volume(
 {
     let solid = boxed(min_x, min_y, max_x, max_y, z_bottom, z_top);
     let whole = region(material, net, polygon, solid);
-    give_number(whole.volume(xs, ys), volume)
+    give(whole.volume(xs, ys), volume)
 }
 
 #[unsafe(no_mangle)]
@@ -117,7 +117,7 @@ pub extern "C" fn openrdson_prism_region_volume(
     ensures { Given (solids.of_solid xs.now ys.now (Prism z_bottom z_top start count) (solids.volume xs.now ys.now (Prism z_bottom z_top start count))) result volume.old volume.new }
 {
     let whole = region(material, net, polygon, prism(z_bottom, z_top, start, count));
-    give_number(whole.volume(xs, ys), volume)
+    give(whole.volume(xs, ys), volume)
 }
 
 #[unsafe(no_mangle)]

@@ -3,24 +3,12 @@ ghost use Rattle.std.specs.Prelude.{◌≡◌};
 ghost use Rattle.geometry.specs.Plans.{the_blocks};
 ghost use Rattle.geometry.specs.Polygons.{the_polygons};
 ghost use Rattle.geometry.specs.Regions.{the_regions};
-ghost use Rattle.geometry.specs.Stack.{assemble_stack, stacked_answer};
+ghost use Rattle.geometry.specs.Stack.{assemble_stack};
 ghost use Rattle.c_api.specs.Given.{Given};
 ghost use Rattle.c_api.specs.Stacks.{GivenRows};
 
-use geometry::{Stacked, assemble_stack};
-
-// The number of regions.
-fn give_count(answer: Stacked, regions: &mut usize) -> u32
-    ensures { Given (stacked_answer answer) result regions.old regions.new }
-{
-    match answer {
-        Stacked::Refused(why) => why.number(),
-        Stacked::Regions(count) => {
-            *regions = count;
-            0
-        }
-    }
-}
+use crate::answers::give;
+use geometry::assemble_stack;
 
 // The call; the number of regions is given through the last reference.
 #[unsafe(no_mangle)]
@@ -81,5 +69,5 @@ pub extern "C" fn openrdson_assemble_stack(
         polygons,
         outcomes,
     );
-    give_count(stacked, regions)
+    give(stacked, regions)
 }

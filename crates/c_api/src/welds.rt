@@ -6,7 +6,7 @@ ghost use Rattle.meshing.specs.Welds.{weld_nodes};
 ghost use Rattle.c_api.specs.Given.{Given};
 ghost use Rattle.c_api.specs.Meshes.{GivenWelded};
 
-use crate::answers::give_number;
+use crate::answers::give;
 use crate::boxes::give_grown;
 
 #[unsafe(no_mangle)]
@@ -60,5 +60,5 @@ pub extern "C" fn openrdson_mesh_volume(
     ensures { Given (mesh_volume (the_mesh xs.now ys.now zs.now kinds.now places.now regions.now)) result volume.old volume.new }
 {
     let measured = meshing::mesh_volume(xs, ys, zs, kinds, places, regions);
-    give_number(measured, volume)
+    give(measured, volume)
 }

@@ -1,41 +1,37 @@
--- Stacking a layout: a law a refusal, what is written where there is room, and the plans by the table. Assumes nothing.
-use Prim.Native.Nat.{ℕ, ◌≤◌, ◌<◌}
-use mathlib.Core.Path.{◌≡◌, refl, sym, ap, ◌∙◌, subst, fun_ext}
-use mathlib.Core.Bool.{true, false}
-use mathlib.Core.List.{List}
-use native.Mathlib.Omega.{arith}
-use lib.ListN.{length}
-use borrow.Author.Tests.{le-leb, lt-leb}
+-- Stacking a layout: the checks before it, what is written where there is room, and the plans by the table.
+use Rattle.std.proofs.Common.{ℕ, ◌≤◌, ◌<◌, ◌≡◌, refl, sym, ap, ◌∙◌, subst, List, arith, leb, length, leb-true, le-leb}
+use mathlib.Core.Path.{fun_ext}
+use borrow.Author.Tests.{lt-leb}
+use Rattle.std.specs.Prelude.{Result, Ok}
 use Rattle.lists.specs.Answer.{Answer, refused, given}
-use Rattle.lists.specs.Lists.{put}
-use Rattle.lists.proofs.Answers.{passed}
-use Rattle.openrdson_core.specs.Refusals.{refusal_number}
+use Rattle.lists.specs.Lists.{put, elems}
+use Rattle.lists.proofs.Answers.{passed, passed_then}
+use Rattle.openrdson_core.specs.Answers.{answer}
 use Rattle.openrdson_core.specs.Blocks.{count, layer_names_ok, map_ok, stack_ok, vias_ok}
 use Rattle.openrdson_core.specs.Tech.{blocks_fault}
 use Rattle.openrdson_core.specs.declared.refusals.Refusal.{Refusal}
-use Rattle.geometry.specs.Regions.{Regions, even_regions, put_regions}
-use Rattle.geometry.specs.Polygons.{Polygons, even_polygons, parts_fault, layer_at}
-use Rattle.geometry.specs.Plans.{Blocks, Sound, plan_of, row_plan}
-use Rattle.geometry.specs.Table.{Table, put_plans, layer_plan}
-use Rattle.geometry.specs.Stack.{regions_to, outcomes_to, rows_to, Stacking, stacking_by, fitted, assemble_stack, Leaves}
-use Rattle.geometry.specs.declared.plans.Plan.{Plan}
-use Rattle.geometry.specs.declared.stack.Stacked.{Stacked}
-use Rattle.geometry.specs.declared.stack.Stacked.TheVariants as stacked
+use Rattle.geometry.specs.Regions.{Regions, even_regions, Even, put_regions}
+use Rattle.geometry.specs.Polygons.{Polygons, even_polygons, EvenPolygons, parts_fault, layer_at}
+use Rattle.geometry.specs.Plans.{Blocks, Plan, Sound, plan_of, row_plan}
+use Rattle.geometry.specs.Table.{layer_plan}
+use Rattle.geometry.specs.Stack.{regions_to, outcomes_to, rows_to, Stacking, stacking_by, fitted, stack_fault, assemble_stack, Leaves}
+use Rattle.geometry.proofs.RegionLaws.{even_of}
+use Rattle.geometry.proofs.PolygonLaws.{polygons_even_of}
 use Rattle.geometry.proofs.StackLaws.{rows_are}
 use Rattle.geometry.proofs.TableLaws.{layer_plan_lem}
 
 -- by an equal answer
-pub leaves_same : {a b : Answer Stacking} {r r' : Regions} {o o' : List ℕ} {s : Stacked} → a ≡ b → Leaves b r r' o o' s → Leaves a r r' o o' s
+pub leaves_same : {a b : Answer Stacking} {r r' : Regions} {o o' : List ℕ} {s : Result ℕ Refusal} → a ≡ b → Leaves b r r' o o' s → Leaves a r r' o o' s
 leaves_same {r = r} {r'} {o} {o'} {s} e l = subst (λ (c : Answer Stacking). Leaves c r r' o o' s) (sym e) l
 
 -- where the call is turned down, all is as it was
-pub refused_leaves : (r : Regions) (o : List ℕ) (a : Answer Stacking) (why : Refusal) → a ≡ refused (refusal_number why) → Leaves a r r o o (stacked.Refused why)
-refused_leaves r o a why e = leaves_same e (record { count = refl; rows = refl; told = refl })
+pub refused_leaves : (r : Regions) (o : List ℕ) (a : Answer Stacking) {n : ℕ} {s : Result ℕ Refusal} → a ≡ refused n → answer s ≡ refused n → Leaves a r r o o s
+refused_leaves r o a e f = leaves_same e (record { count = f; rows = refl; told = refl })
 
 -- polygon by polygon, the plan by the filled table is the layer's
-pub plans_same : (b : Blocks) (p : Polygons) (t filled : Table) → filled ≡ put_plans t (count b.names) (row_plan b)
+pub plans_same : (b : Blocks) (p : Polygons) (plans filled : List Plan) → filled ≡ put plans 0 (elems (count b.names) (row_plan b))
     → ◌≡◌ {A = ℕ → Plan} (λ i. layer_plan b.names filled (layer_at p i)) (λ i. plan_of b (layer_at p i))
-plans_same b p t filled e = fun_ext (λ i. ap (λ (u : Table). layer_plan b.names u (layer_at p i)) e ∙ layer_plan_lem b t (layer_at p i))
+plans_same b p plans filled e = fun_ext (λ i. ap (λ (u : List Plan). layer_plan b.names u (layer_at p i)) e ∙ layer_plan_lem b plans (layer_at p i))
 
 -- ---- with all checked: 12, or what is written. The rows were counted by plans that are the same.
 
@@ -62,7 +58,7 @@ module _ (p : Polygons) (r : Regions) (o : List ℕ) (used plan : ℕ → Plan) 
   all_fit k e h l = let g : length (regions_to p plan n) ≤ length r.kinds = omega (arith, rows_by k e, h) in rw (le-leb _ _ g, le-leb _ _ l)
 
   pub all_written : (k : ℕ) (r' : Regions) (o' : List ℕ) → k ≡ rows_to used n → k ≤ length r.kinds → n ≤ length o
-      → r' ≡ put_regions r 0 (regions_to p used n) → o' ≡ put o 0 (outcomes_to p used n) → Leaves asked r r' o o' (stacked.Regions k)
+      → r' ≡ put_regions r 0 (regions_to p used n) → o' ≡ put o 0 (outcomes_to p used n) → Leaves asked r r' o o' (Ok k)
   all_written k r' o' e h l f g =
       leaves_same (all_fit k e h l)
       (record {
@@ -91,37 +87,36 @@ sound_of b e =
     let a6 = passed (vias_ok b.vias) 14 _ a5.1 in
     record { names = a1.0; conducting = a2.0; via = a3.0; conductors = a4.0; diffusions = a5.0; vias = a6.0 }
 
-module _ (b : Blocks) (p : Polygons) (r : Regions) (o : List ℕ) where
-  pub blocks_refused : {n : ℕ} → fault b ≡ refused n → assemble_stack b p r o ≡ refused n
-  unfolding assemble_stack
-  blocks_refused e = rw e
+-- what the checks before the call tell
+pub record Checked (b : Blocks) (p : Polygons) (r : Regions) : Type 0 where
+  pub sound : Sound b
+  pub parallel : EvenPolygons p
+  pub even : Even r
+  pub few : length p.layers ≤ 4096
+  pub fine : parts_fault p.xs p.ys p.starts p.counts (length p.layers) ≡ given tt
 
-  module _ (f : fault b ≡ given tt) where
-    pub polygons_uneven : even_polygons p ≡ false → assemble_stack b p r o ≡ refused 16
+module _ (b : Blocks) (p : Polygons) (r : Regions) where
+  pub checked_of : stack_fault b p r ≡ given tt → Checked b p r
+  unfolding stack_fault
+  checked_of e =
+      let blocks = passed_then (fault b) _ e in
+      let polygons = passed (even_polygons p) 16 _ blocks.2 in
+      let regions = passed (even_regions r) 16 _ polygons.1 in
+      let few = passed (leb (length p.layers) 4096) 2 _ regions.1 in
+      let points = passed (leb (length p.xs) 2097152) 2 _ few.1 in
+      record {
+        sound = sound_of b blocks.1;
+        parallel = polygons_even_of p polygons.0;
+        even = even_of r regions.0;
+        few = leb-true _ _ few.0;
+        fine = points.1;
+      }
+
+  module _ (o : List ℕ) where
+    pub stack_refused : {n : ℕ} → stack_fault b p r ≡ refused n → assemble_stack b p r o ≡ refused n
     unfolding assemble_stack
-    polygons_uneven e = rw (f, e)
+    stack_refused e = rw e
 
-    module _ (e : even_polygons p ≡ true) where
-      pub rows_uneven : even_regions r ≡ false → assemble_stack b p r o ≡ refused 16
-      unfolding assemble_stack
-      rows_uneven g = rw (f, e, g)
-
-      module _ (g : even_regions r ≡ true) where
-        pub many_polygons : 4096 < length p.layers → assemble_stack b p r o ≡ refused 2
-        unfolding assemble_stack
-        many_polygons h = rw (f, e, g, lt-leb _ _ h)
-
-        module _ (h : length p.layers ≤ 4096) where
-          pub many_points : 2097152 < length p.xs → assemble_stack b p r o ≡ refused 2
-          unfolding assemble_stack
-          many_points l = rw (f, e, g, le-leb _ _ h, lt-leb _ _ l)
-
-          module _ (l : length p.xs ≤ 2097152) where
-            pub polygon_refused : {n : ℕ} → parts_fault p.xs p.ys p.starts p.counts (length p.layers) ≡ refused n → assemble_stack b p r o ≡ refused n
-            unfolding assemble_stack
-            polygon_refused q = rw (f, e, g, le-leb _ _ h, le-leb _ _ l, q)
-
-            pub all_checked : parts_fault p.xs p.ys p.starts p.counts (length p.layers) ≡ given tt
-                → assemble_stack b p r o ≡ fitted p (λ i. plan_of b (layer_at p i)) (length r.kinds) (length o)
-            unfolding assemble_stack
-            all_checked q = rw (f, e, g, le-leb _ _ h, le-leb _ _ l, q)
+    pub stack_given : stack_fault b p r ≡ given tt → assemble_stack b p r o ≡ fitted p (λ i. plan_of b (layer_at p i)) (length r.kinds) (length o)
+    unfolding assemble_stack
+    stack_given e = rw e

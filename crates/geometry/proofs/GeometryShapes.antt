@@ -1,10 +1,6 @@
--- Shapes worked out by the definitions: rings and boxes extruded, and totals of small region lists. Assumes nothing.
-use Prim.Native.Nat.{ℕ}
-use mathlib.Core.Path.{◌≡◌, refl}
-use mathlib.Core.Bool.{false}
-use mathlib.Core.List.{[], ◌∷◌}
-use lib.IntN.{pos}
-use lib.Ieee.{Float, nan, inf, fin, add, sub, mul, div, lt, eq, le, of_bits, round}
+-- Shapes worked out by the definitions: rings and boxes extruded, and totals of small region lists.
+use Rattle.std.proofs.Common.{ℕ, ◌≡◌, refl, false, [], ◌∷◌, pos, Float}
+use lib.Ieee.{nan, inf, fin, add, sub, mul, div, lt, eq, le, of_bits, round}
 use Rattle.lists.specs.Answer.{Answer, refused, given, fold_answer}
 use Rattle.lists.specs.Lists.{fold_below, all_below, any_below}
 use Rattle.binary64.specs.Numbers.{at_most, abs}
@@ -15,7 +11,7 @@ use Rattle.openrdson_core.specs.Rectangle.{on_corner, on_some_corner, fills_corn
 use Rattle.openrdson_core.specs.Solids.{volume}
 use Rattle.openrdson_core.specs.declared.solids.Solid.TheVariants.{Box, Prism}
 use Rattle.openrdson_core.specs.declared.solids.SolidRegion.{SolidRegion}
-use Rattle.geometry.specs.Regions.{Regions, the_regions, the_region, no_polygon, all_equal, even_regions, solid_at, region_at}
+use Rattle.geometry.specs.Regions.{Regions, the_regions, the_region, no_polygon, even_regions, solid_at, region_at}
 use Rattle.geometry.specs.Extrude.{solid_of, region_of, extrude_polygon, extrude_box}
 use Rattle.geometry.specs.Volumes.{row_volume, total_volume}
 
@@ -95,7 +91,7 @@ box_material_past = refl
 
 -- no rows: +0
 pub empty_total : total_volume (the_regions [] [] [] [] [] [] [] [] [] [] [] []) [] [] ≡ given zero
-unfolding total_volume even_regions all_equal of_bits fold_answer
+unfolding total_volume even_regions of_bits fold_answer
 empty_total = refl
 
 -- Two rows: the box 0..2 by 0..1 by 0..3 with a wild start and a wild count, and a prism from 0 to 2 over points 1 to 3 whose first four bounds are no numbers.
@@ -111,36 +107,36 @@ total r = total_volume r (seven ∷ zero ∷ one ∷ zero ∷ []) (seven ∷ zer
 
 -- 6 and 1
 pub box_and_prism : total (rows 0 1 1 768 three) ≡ given seven
-unfolding total_volume even_regions all_equal row_volume region_at solid_at volume ring_fault signed_area shoelace fold_below all_below at_most abs add sub mul div round of_bits lt fold_answer
+unfolding total_volume even_regions row_volume region_at solid_at volume ring_fault signed_area shoelace fold_below all_below at_most abs add sub mul div round of_bits lt fold_answer
 box_and_prism = refl
 
 -- as a prism the first row's part ends past the points; as a box the second has bounds that are no numbers; there is no kind 2
 pub part_past : total (rows 1 1 1 1 three) ≡ refused 15
-unfolding total_volume even_regions all_equal row_volume region_at solid_at fold_answer
+unfolding total_volume even_regions row_volume region_at solid_at fold_answer
 part_past = refl
 
 pub bounds_not_numbers : total (rows 0 0 1 1 three) ≡ refused 1
-unfolding total_volume even_regions all_equal row_volume region_at solid_at volume at_most abs add sub mul round of_bits fold_answer
+unfolding total_volume even_regions row_volume region_at solid_at volume at_most abs add sub mul round of_bits fold_answer
 bounds_not_numbers = refl
 
 pub no_such_kind : total (rows 0 2 1 1 three) ≡ refused 15
-unfolding total_volume even_regions all_equal row_volume region_at solid_at volume at_most abs add sub mul round of_bits fold_answer
+unfolding total_volume even_regions row_volume region_at solid_at volume at_most abs add sub mul round of_bits fold_answer
 no_such_kind = refl
 
 pub row_material_past : total (rows 0 1 1 769 three) ≡ refused 15
-unfolding total_volume even_regions all_equal row_volume region_at solid_at volume at_most abs add sub mul round of_bits fold_answer
+unfolding total_volume even_regions row_volume region_at solid_at volume at_most abs add sub mul round of_bits fold_answer
 row_material_past = refl
 
 -- region by region: the first row's number comes before the second's kind, and after its own material
 pub number_first : total (rows 0 2 1 1 nan) ≡ refused 1
-unfolding total_volume even_regions all_equal row_volume region_at solid_at volume at_most fold_answer
+unfolding total_volume even_regions row_volume region_at solid_at volume at_most fold_answer
 number_first = refl
 
 pub material_first : total (rows 0 2 769 1 nan) ≡ refused 15
-unfolding total_volume even_regions all_equal row_volume region_at solid_at fold_answer
+unfolding total_volume even_regions row_volume region_at solid_at fold_answer
 material_first = refl
 
 -- a net too few, before all that is against the row
 pub nets_uneven : total_volume (the_regions (2 ∷ []) (nan ∷ []) (nan ∷ []) (nan ∷ []) (nan ∷ []) (nan ∷ []) (nan ∷ []) (9 ∷ []) (9 ∷ []) (769 ∷ []) [] (0 ∷ [])) [] [] ≡ refused 16
-unfolding total_volume even_regions all_equal
+unfolding total_volume even_regions
 nets_uneven = refl

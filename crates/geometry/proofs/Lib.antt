@@ -1,10 +1,7 @@
 -- Laws of the definitions, cited by this crate's proofs and by the crates above.
 pub mod RegionLaws
-pub mod ExtrudeLaws
 pub mod RingLaws
 pub mod VolumeLaws
-pub mod RangeLaws
-pub mod PlanLaws
 pub mod TableLaws
 pub mod PolygonLaws
 pub mod RowLaws

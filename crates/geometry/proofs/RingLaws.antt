@@ -1,14 +1,7 @@
--- The area of a ring, two edges a turn: a law for each way through `ring_area`. Assumes nothing.
-use Prim.Native.Nat.{ℕ, ◌+◌, ◌-◌, ◌≤◌, ◌<◌}
-use mathlib.Core.Path.{◌≡◌, refl, sym, ap, subst, ◌∙◌}
-use mathlib.Core.Bool.{Bool, true, false, ◌&&◌}
-use mathlib.Core.List.{List}
-use mathlib.Core.Logic.{⊎_elim}
-use native.Mathlib.Nat.{eq-or-lt_of_le}
-use native.Mathlib.Omega.{arith}
-use lib.ListN.{length}
-use lib.Ieee.{Float, of_bits}
-use borrow.Author.Tests.{eq-eqb, le-leb, lt-leb, lt-ltb, le-ltb}
+-- The area of a ring, two edges a turn: a law for each way through `ring_area`.
+use Rattle.std.proofs.Common.{ℕ, ◌+◌, ◌-◌, ◌≤◌, ◌<◌, ◌≡◌, refl, sym, ap, subst, ◌∙◌, Bool, true, false, ◌&&◌, List, ⊎_elim, eq-or-lt_of_le, arith, length, Float, eq-eqb, le-leb, lt-ltb, le-ltb}
+use lib.Ieee.{of_bits}
+use borrow.Author.Tests.{lt-leb}
 use Rattle.lists.specs.Answer.{refused, given}
 use Rattle.lists.specs.Lists.{all_below}
 use Rattle.lists.proofs.Scans.{both, all_at}

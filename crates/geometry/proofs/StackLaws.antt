@@ -1,51 +1,18 @@
--- What the polygons come to, one after the other. Assumes nothing.
-use Prim.Native.Nat.{ℕ, zero, suc, ◌+◌, ◌≤◌, ◌<◌}
-use mathlib.Core.Path.{◌≡◌, refl, sym, ap, ◌∙◌, subst}
-use mathlib.Core.Logic.{inl, inr}
-use mathlib.Core.List.{List, [], ◌∷◌, ◌++◌}
-use native.Mathlib.Nat.{eq-or-lt_of_le}
-use native.Mathlib.Numerals.{add-one}
-use native.Mathlib.Omega.{arith}
-use lib.ListN.{length, length-append}
-use lib.Ieee.{Float}
+-- What the polygons come to, one after the other.
+use Rattle.std.proofs.Common.{ℕ, zero, suc, ◌+◌, ◌≤◌, ◌<◌, ◌≡◌, refl, sym, ap, ◌∙◌, inl, inr, ◌++◌, eq-or-lt_of_le, add-one, arith, length, length-append}
 use Rattle.lists.specs.Lists.{runs, fold_below}
-use Rattle.openrdson_core.specs.declared.solids.Solid.{Solid}
-use Rattle.openrdson_core.specs.declared.solids.SolidRegion.{SolidRegion}
-use Rattle.openrdson_core.specs.declared.solids.Material.{Material}
-use Rattle.geometry.specs.Regions.{Regions, Even, the_region, kind_of, put_regions}
-use Rattle.geometry.specs.Polygons.{Polygons, part_solid}
-use Rattle.geometry.specs.Stack.{rows_of, regions_of, outcome_of, regions_at, regions_to, rows_to}
-use Rattle.geometry.specs.declared.plans.Plan.{Plan}
-use Rattle.geometry.specs.declared.plans.Plan.TheVariants.{Skipped, Between}
-use Rattle.geometry.proofs.RowLaws.{Long, no_rows, more_rows, rows_long, still_even}
+use Rattle.geometry.specs.Regions.{Regions, Even, put_regions}
+use Rattle.geometry.specs.Polygons.{Polygons}
+use Rattle.geometry.specs.Stack.{rows_of, regions_at, regions_to, rows_to}
+use Rattle.std.specs.Prelude.{Ok, Err}
+use Rattle.geometry.specs.Plans.{Plan}
+use Rattle.geometry.proofs.RowLaws.{no_rows, more_rows}
 
 -- ---- one polygon
 
 pub one_row : (plan : Plan) → rows_of plan ≤ 1
-one_row (Skipped outcome) = omega arith
-one_row (Between z0 z1 material) = omega arith
-
-module _ (xs ys : List Float) (start count net polygon : ℕ) (plan : Plan) where
-  pub skipped_rows : (r : Regions) (k : ℕ) {o : ℕ} → plan ≡ Skipped o → r ≡ put_regions r k (regions_of xs ys start count net polygon plan)
-  skipped_rows r k e = sym (no_rows r k) ∙ ap (λ (q : Plan). put_regions r k (regions_of xs ys start count net polygon q)) (sym e)
-
-  pub skipped_outcome : {o : ℕ} → plan ≡ Skipped o → o ≡ outcome_of xs ys start count plan
-  skipped_outcome e = ap (outcome_of xs ys start count) (sym e)
-
-  pub skipped_none : {o : ℕ} → plan ≡ Skipped o → 0 ≡ rows_of plan
-  skipped_none e = ap rows_of (sym e)
-
-  module _ (z0 z1 : Float) (m : Material) (e : plan ≡ Between z0 z1 m) {s : Solid} (is : s ≡ part_solid xs ys start count z0 z1) where
-    pub placed_row : (r : Regions) (k : ℕ) {r' : Regions} {g : SolidRegion} → g ≡ the_region m.0 net polygon s → r' ≡ put_regions r k (g ∷ []) → r' ≡ put_regions r k (regions_of xs ys start count net polygon plan)
-    placed_row r k f h =
-        h ∙ ap (λ (g : SolidRegion). put_regions r k (g ∷ [])) (f ∙ ap (the_region m.0 net polygon) is)
-        ∙ ap (λ (q : Plan). put_regions r k (regions_of xs ys start count net polygon q)) (sym e)
-
-    pub placed_outcome : {o : ℕ} → o ≡ kind_of s → o ≡ outcome_of xs ys start count plan
-    placed_outcome f = f ∙ ap kind_of is ∙ ap (outcome_of xs ys start count) (sym e)
-
-  pub placed_one : {z0 z1 : Float} {m : Material} → plan ≡ Between z0 z1 m → 1 ≡ rows_of plan
-  placed_one e = ap rows_of (sym e)
+one_row (Err why) = omega arith
+one_row (Ok s) = omega arith
 
 -- ---- how many rows there are
 
@@ -75,13 +42,6 @@ module _ (plan : ℕ → Plan) where
         | inr g ↦ omega (arith, rows_among n i g, rows_suc n)
       ]
 
-  rows_up : (n i : ℕ) → i ≤ n → rows_to plan i ≤ rows_to plan n
-  rows_up n i h =
-      elim (eq-or-lt_of_le h) [
-        | inl g ↦ let e : rows_to plan i ≡ rows_to plan n = ap (rows_to plan) g in omega (arith, e)
-        | inr g ↦ omega (arith, rows_among n i g)
-      ]
-
   -- no more rows than polygons
   pub rows_few : (n : ℕ) → rows_to plan n ≤ n
   rows_few zero = omega (arith, rows_none)
@@ -91,8 +51,8 @@ module _ (plan : ℕ → Plan) where
 
 module _ (p : Polygons) where
   pub rows_at : (i : ℕ) (plan : Plan) → length (regions_at p i plan) ≡ rows_of plan
-  rows_at i (Skipped outcome) = refl
-  rows_at i (Between z0 z1 material) = refl
+  rows_at i (Err why) = refl
+  rows_at i (Ok s) = refl
 
   module _ (plan : ℕ → Plan) where
     pub regions_more : (i : ℕ) → regions_to p plan (i + 1) ≡ regions_to p plan i ++ regions_at p i (plan i)
@@ -123,20 +83,6 @@ module _ (p : Polygons) where
       pub place_room : (i k : ℕ) → i < n → k ≡ rows_to plan i → k + rows_of (plan i) ≤ length r₀.kinds
       place_room i k h e = omega (arith, e, rows_among plan n i h, rows_are n, room)
 
-      pub placed_long : (i : ℕ) (r : Regions) → i ≤ n → r ≡ put_regions r₀ 0 (regions_to p plan i) → Long r₀ r
-      placed_long i r h e = subst (Long r₀) (sym e) (rows_long r₀ w (regions_to p plan i) (omega (arith, rows_up plan n i h, rows_are i, rows_are n, room)))
-
-      -- at a turn there is room for the rows of polygon i, and the lists are equally long
-      module _ (i k : ℕ) (r : Regions) (q : Plan) (h : i < n) (e : k ≡ rows_to plan i) (f : r ≡ put_regions r₀ 0 (regions_to p plan i)) (is : q ≡ plan i) where
-        pub still_places : k + rows_of q ≤ length r.kinds
-        still_places =
-            let g : rows_of q ≡ rows_of (plan i) = ap rows_of is in
-            let l : i ≤ n = omega arith in
-            omega (arith, g, place_room i k h e, (placed_long i r l f).kinds)
-
-      pub placed_even : (i : ℕ) (r : Regions) → i ≤ n → r ≡ put_regions r₀ 0 (regions_to p plan i) → Even r
-      placed_even i r h e = still_even r₀ r w (placed_long i r h e)
-
       -- a turn that writes the rows of polygon i
       pub placed_more : (i k : ℕ) (r r' : Regions) (q : Plan) → i < n → k ≡ rows_to plan i → r ≡ put_regions r₀ 0 (regions_to p plan i) → r' ≡ put_regions r k (regions_at p i q) → q ≡ plan i
           → r' ≡ put_regions r₀ 0 (regions_to p plan (i + 1))
@@ -144,7 +90,3 @@ module _ (p : Polygons) where
           g ∙ ap (λ (o : Plan). put_regions r k (regions_at p i o)) is ∙ ap (λ (l : Regions). put_regions l k (regions_at p i (plan i))) f
           ∙ more_rows r₀ w (regions_to p plan i) (regions_at p i (plan i)) k (e ∙ sym (rows_are i)) (omega (arith, place_room i k h e, rows_at i (plan i)))
           ∙ ap (put_regions r₀ 0) (sym (regions_more i))
-
-      -- all polygons are done
-      pub all_placed : (i : ℕ) {r : Regions} → r ≡ put_regions r₀ 0 (regions_to p plan i) → i ≡ n → r ≡ put_regions r₀ 0 (regions_to p plan n)
-      all_placed i e h = e ∙ ap (λ (j : ℕ). put_regions r₀ 0 (regions_to p plan j)) h

@@ -1,12 +1,6 @@
--- A layout stacked by the definitions: a square, a polygon of a layer without a name, and a triangle. Assumes nothing.
-use Prim.Native.Nat.{ℕ}
-use mathlib.Core.Path.{◌≡◌, refl}
-use mathlib.Core.Bool.{false}
-use mathlib.Core.List.{List, [], ◌∷◌, ◌++◌}
-use mathlib.Core.Option.{or_else}
-use lib.IntN.{pos}
-use lib.ListN.{replicate}
-use lib.Ieee.{Float, fin, add, sub, mul, lt, eq, le, of_bits, round}
+-- A layout stacked by the definitions: a square, a polygon of a layer without a name, and a triangle.
+use Rattle.std.proofs.Common.{ℕ, ◌≡◌, refl, false, List, [], ◌∷◌, ◌++◌, pos, replicate, Float}
+use lib.Ieee.{fin, add, sub, mul, lt, eq, le, of_bits, round}
 use Rattle.lists.specs.Answer.{refused, given, fold_answer}
 use Rattle.lists.specs.Lists.{runs, elems, first, fold_below, all_below, any_below}
 use Rattle.binary64.specs.Numbers.{at_most, abs}
@@ -18,14 +12,14 @@ use Rattle.openrdson_core.specs.Points.{ring_fault}
 use Rattle.openrdson_core.specs.Bounds.{bounds_of}
 use Rattle.openrdson_core.specs.Rectangle.{on_corner, on_some_corner, fills_corners, fills_bounds}
 use Rattle.openrdson_core.specs.declared.solids.Solid.TheVariants.{Box, Prism}
-use Rattle.geometry.specs.Regions.{Regions, the_regions, the_region, all_equal, even_regions}
+use Rattle.geometry.specs.Regions.{Regions, the_regions, the_region, even_regions}
 use Rattle.geometry.specs.Extrude.{solid_of}
 use Rattle.geometry.specs.Polygons.{Polygons, the_polygons, even_polygons, part_fault, part_solid}
 use Rattle.geometry.specs.Ranges.{diffusion_range, layer_range, stack_range}
-use Rattle.geometry.specs.Plans.{Blocks, the_blocks, plan_of_physical, plan_of_name, plan_of}
-use Rattle.geometry.specs.declared.plans.Plan.{Plan}
-use Rattle.geometry.specs.declared.plans.Plan.TheVariants.{Skipped, Between}
-use Rattle.geometry.specs.Stack.{regions_to, outcomes_to, fitted, assemble_stack}
+use Rattle.std.specs.Prelude.{Ok, Err}
+use Rattle.geometry.specs.Plans.{Blocks, Plan, the_blocks, plan_of_physical, plan_of_name, plan_of}
+use Rattle.geometry.specs.declared.plans.Skip.TheVariants.{NoRange}
+use Rattle.geometry.specs.Stack.{regions_to, outcomes_to, fitted, stack_fault, assemble_stack}
 
 abbrev zero : Float
 zero = fin false 0 (pos 0)
@@ -72,25 +66,25 @@ pub square_and_triangle : assemble_stack blocks polygons (lent 2) (9 ∷ 9 ∷ 9
       regions = the_region 1 5 0 (Box zero zero one one one two) ∷ the_region 1 4 2 (Prism one two 0 3) ∷ [];
       outcomes = 0 ∷ 2 ∷ 1 ∷ [];
     })
-unfolding assemble_stack blocks_fault block_ok name_ok name_length zeros same little figures_ok name_or_none stack_in figures_in even_polygons even_regions all_equal part_fault ring_fault fitted regions_to outcomes_to runs elems plan_of plan_of_name plan_of_physical stack_range layer_range diffusion_range row_of_pattern row_of is_marker starts_with contains material_of part_solid solid_of fills_bounds fills_corners on_some_corner on_corner bounds_of first fold_below fold_answer all_below any_below or_else at_most abs add sub mul lt eq le round of_bits
+unfolding assemble_stack stack_fault blocks_fault block_ok name_ok name_length zeros same little figures_ok name_or_none stack_in figures_in even_polygons even_regions part_fault ring_fault fitted regions_to outcomes_to runs elems plan_of plan_of_name plan_of_physical stack_range layer_range diffusion_range row_of_pattern row_of is_marker starts_with contains material_of part_solid solid_of fills_bounds fills_corners on_some_corner on_corner bounds_of first fold_below fold_answer all_below any_below at_most abs add sub mul lt eq le round of_bits
 square_and_triangle = refl
 
 -- a row too few, and an outcome too few
 pub no_room : assemble_stack blocks polygons (lent 1) (9 ∷ 9 ∷ 9 ∷ []) ≡ refused 12
-unfolding assemble_stack blocks_fault block_ok name_ok name_length zeros same little figures_ok name_or_none stack_in figures_in even_polygons even_regions all_equal part_fault ring_fault fitted regions_to outcomes_to runs elems plan_of plan_of_name plan_of_physical stack_range layer_range diffusion_range row_of_pattern row_of is_marker starts_with contains material_of part_solid solid_of fills_bounds fills_corners on_some_corner on_corner bounds_of first fold_below fold_answer all_below any_below or_else at_most abs add sub mul lt eq le round of_bits
+unfolding assemble_stack stack_fault blocks_fault block_ok name_ok name_length zeros same little figures_ok name_or_none stack_in figures_in even_polygons even_regions part_fault ring_fault fitted regions_to outcomes_to runs elems plan_of plan_of_name plan_of_physical stack_range layer_range diffusion_range row_of_pattern row_of is_marker starts_with contains material_of part_solid solid_of fills_bounds fills_corners on_some_corner on_corner bounds_of first fold_below fold_answer all_below any_below at_most abs add sub mul lt eq le round of_bits
 no_room = refl
 
 pub few_outcomes : assemble_stack blocks polygons (lent 2) (9 ∷ 9 ∷ []) ≡ refused 12
-unfolding assemble_stack blocks_fault block_ok name_ok name_length zeros same little figures_ok name_or_none stack_in figures_in even_polygons even_regions all_equal part_fault ring_fault fitted regions_to outcomes_to runs elems plan_of plan_of_name plan_of_physical stack_range layer_range diffusion_range row_of_pattern row_of is_marker starts_with contains material_of part_solid solid_of fills_bounds fills_corners on_some_corner on_corner bounds_of first fold_below fold_answer all_below any_below or_else at_most abs add sub mul lt eq le round of_bits
+unfolding assemble_stack stack_fault blocks_fault block_ok name_ok name_length zeros same little figures_ok name_or_none stack_in figures_in even_polygons even_regions part_fault ring_fault fitted regions_to outcomes_to runs elems plan_of plan_of_name plan_of_physical stack_range layer_range diffusion_range row_of_pattern row_of is_marker starts_with contains material_of part_solid solid_of fills_bounds fills_corners on_some_corner on_corner bounds_of first fold_below fold_answer all_below any_below at_most abs add sub mul lt eq le round of_bits
 few_outcomes = refl
 
 -- a block cut short comes before lists of unequal length, and these before a region list of unequal length
 pub damaged_first : assemble_stack (the_blocks (1 ∷ 0 ∷ []) empty empty empty empty empty) (the_polygons [] (1 ∷ []) [] [] [] []) (lent 0) [] ≡ refused 14
-unfolding assemble_stack blocks_fault block_ok little
+unfolding assemble_stack stack_fault blocks_fault block_ok little
 damaged_first = refl
 
 pub nets_uneven : assemble_stack (the_blocks empty empty empty empty empty empty) (the_polygons [] (1 ∷ []) [] [] [] []) (lent 0) [] ≡ refused 16
-unfolding assemble_stack blocks_fault block_ok stack_in little even_polygons all_equal all_below
+unfolding assemble_stack stack_fault blocks_fault block_ok stack_in little even_polygons all_below
 nets_uneven = refl
 
 -- ---- plans: conductors A from 1 to 2, B from 2 without a thickness, C from 3 to 4, D from 2 to 2; vias V from A to C, W from C to A, U from A to none
@@ -117,28 +111,31 @@ stack =
 abbrev plan_for : ℕ → Plan
 plan_for letter = plan_of_physical stack (letter ∷ [])
 
-pub plan_whole : plan_for 65 ≡ Between one two (record { 0 = 1 })
+abbrev slab : Float → Float → ℕ → Plan
+slab bottom top material = Ok (record { range = record { bottom = bottom; top = top }; material = record { 0 = material } })
+
+pub plan_whole : plan_for 65 ≡ slab one two 1
 unfolding plan_of_physical stack_range layer_range diffusion_range row_of material_of first same zeros name_length little add le lt round of_bits all_below
 plan_whole = refl
 
 -- a missing figure, and a top that is not above the bottom
-pub plan_missing : plan_for 66 ≡ Skipped 5
+pub plan_missing : plan_for 66 ≡ Err NoRange
 unfolding plan_of_physical stack_range layer_range diffusion_range row_of material_of first same zeros name_length little add le lt round of_bits all_below
 plan_missing = refl
 
-pub plan_flat : plan_for 68 ≡ Skipped 5
+pub plan_flat : plan_for 68 ≡ Err NoRange
 unfolding plan_of_physical stack_range layer_range diffusion_range row_of material_of first same zeros name_length little add le lt round of_bits all_below
 plan_flat = refl
 
 -- a via: from the top of its bottom layer to the bottom of its top layer, with the via's own material; upside down or without an end there is no range
-pub plan_via : plan_for 86 ≡ Between two three (record { 0 = 5 })
+pub plan_via : plan_for 86 ≡ slab two three 5
 unfolding plan_of_physical stack_range layer_range diffusion_range row_of material_of first same zeros name_length little add le lt round of_bits all_below
 plan_via = refl
 
-pub plan_via_down : plan_for 87 ≡ Skipped 5
+pub plan_via_down : plan_for 87 ≡ Err NoRange
 unfolding plan_of_physical stack_range layer_range diffusion_range row_of material_of first same zeros name_length little add le lt round of_bits all_below
 plan_via_down = refl
 
-pub plan_via_open : plan_for 85 ≡ Skipped 5
+pub plan_via_open : plan_for 85 ≡ Err NoRange
 unfolding plan_of_physical stack_range layer_range diffusion_range row_of material_of first same zeros name_length little add le lt round of_bits all_below
 plan_via_open = refl

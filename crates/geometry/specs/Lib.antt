@@ -1,8 +1,7 @@
--- The definitions that the contracts cite: one file a source file, and the map from each answer enum.
+-- The definitions that the contracts cite: one file a source file.
 pub mod Regions
 pub mod Extrude
 pub mod Volumes
-pub mod Answers
 pub mod Ranges
 pub mod Plans
 pub mod Table

@@ -1,5 +1,6 @@
 -- A region list (document 01, "What is lent"): twelve parallel lists, a row a region.
-use Rattle.std.specs.Prelude.{ℕ, ◌+◌, ◌≡◌, Bool, true, ◌&&◌, cond, List, [], ◌∷◌, map, eqb, leb, length, get_or, Float}
+use Rattle.std.specs.Prelude.{ℕ, ◌+◌, ◌≡◌, Bool, ◌<◌, cond, List, [], ◌∷◌, map, eqb, leb, length, get_or, Float, Result, Ok, Err}
+use Rattle.std.specs.List.{list_all}
 use Rattle.lists.specs.Answer.{Answer, given, unless, map_answer}
 use Rattle.lists.specs.Lists.{put}
 use Rattle.binary64.specs.Numbers.{at}
@@ -8,6 +9,10 @@ use Rattle.openrdson_core.specs.Solids.{z_bottom_of, z_top_of}
 use Rattle.openrdson_core.specs.declared.solids.Solid.{Solid}
 use Rattle.openrdson_core.specs.declared.solids.Solid.TheVariants.{Box, Prism}
 use Rattle.openrdson_core.specs.declared.solids.SolidRegion.{SolidRegion}
+use Rattle.openrdson_core.specs.declared.refusals.Refusal.{Refusal}
+use Rattle.openrdson_core.specs.declared.refusals.Refusal.TheVariants.{OutsideList}
+use Rattle.geometry.specs.declared.regions.RowKind.{RowKind}
+use Rattle.geometry.specs.declared.regions.RowKind.TheVariants as rows
 
 pub record Regions : Type 0 where
   pub kinds : List ℕ
@@ -40,17 +45,33 @@ the_regions kinds x0 y0 x1 y1 z0 z1 starts counts materials nets polygons =
       polygons = polygons;
     }
 
+-- ---- the kinds of rows
+
+-- the number that stands for a kind
+abbrev pub kind_number : RowKind → ℕ
+kind_number rows.Box = 0
+kind_number rows.Prism = 1
+
+-- the kind that a number stands for; 15 where it stands for none
+abbrev pub StandsFor : ℕ → Result RowKind Refusal → Type 0
+StandsFor n (Ok kind) = n ≡ kind_number kind
+StandsFor n (Err why) = (why ≡ OutsideList) × (1 < n)
+
+-- ---- the lengths
+
 -- every length is n
-unfoldable pub all_equal : ℕ → List ℕ → Bool
-all_equal n [] = true
-all_equal n (m ∷ ms) = eqb m n && all_equal n ms
+abbrev pub all_equal : ℕ → List ℕ → Bool
+all_equal n lengths = list_all (λ (m : ℕ). eqb m n) lengths
+
+-- the lengths of the lists but the kinds
+abbrev pub lengths_of : Regions → List ℕ
+lengths_of r =
+    length r.min_x ∷ length r.min_y ∷ length r.max_x ∷ length r.max_y ∷ length r.z_bottom ∷ length r.z_top
+    ∷ length r.starts ∷ length r.counts ∷ length r.materials ∷ length r.nets ∷ length r.polygons ∷ []
 
 -- the twelve lists are equally long (16)
 unfoldable pub even_regions : Regions → Bool
-even_regions r =
-    all_equal (length r.kinds)
-    (length r.min_x ∷ length r.min_y ∷ length r.max_x ∷ length r.max_y ∷ length r.z_bottom ∷ length r.z_top
-    ∷ length r.starts ∷ length r.counts ∷ length r.materials ∷ length r.nets ∷ length r.polygons ∷ [])
+even_regions r = all_equal (length r.kinds) (lengths_of r)
 
 -- the same, list by list, and a row of them
 pub record Even (r : Regions) : Type 0 where
@@ -101,9 +122,12 @@ region_at r points i =
 -- ---- writing rows
 
 -- what a solid writes in each list: 0 for a box and 1 for a prism; a prism's first four bounds and a box's start and count are zero
+abbrev pub row_kind : Solid → RowKind
+row_kind (Box x0 y0 x1 y1 z0 z1) = rows.Box
+row_kind (Prism z0 z1 start count) = rows.Prism
+
 abbrev pub kind_of : Solid → ℕ
-kind_of (Box x0 y0 x1 y1 z0 z1) = 0
-kind_of (Prism z0 z1 start count) = 1
+kind_of s = kind_number (row_kind s)
 
 abbrev pub min_x_of : Solid → Float
 min_x_of (Box x0 y0 x1 y1 z0 z1) = x0

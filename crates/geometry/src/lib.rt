@@ -11,7 +11,7 @@ mod stack;
 mod table;
 mod volume;
 
-pub use extrude::{Extruded, extrude_box, extrude_polygon, extrude_ring};
-pub use regions::{Built, LARGEST_MATERIAL, NO_POLYGON, are_regions_even, region_at};
-pub use stack::{Stacked, assemble_stack};
+pub use extrude::{extrude_box, extrude_polygon, extrude_ring};
+pub use regions::{LARGEST_MATERIAL, NO_POLYGON, are_regions_even, region_at};
+pub use stack::assemble_stack;
 pub use volume::total_volume;

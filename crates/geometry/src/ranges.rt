@@ -1,97 +1,90 @@
 // The range of heights of a physical name. The blocks have been checked.
-ghost use Rattle.std.specs.Prelude.{◌≡◌, true};
+ghost use Rattle.std.specs.Prelude.{◌≡◌, true, option_map, IfSome};
 ghost use Rattle.openrdson_core.specs.Blocks.{stack_ok, vias_ok};
 ghost use Rattle.openrdson_core.specs.Maps.{spanned, span_within};
-ghost use Rattle.openrdson_core.specs.Tech.{figure_value};
 ghost use Rattle.geometry.specs.Ranges as spec;
 
-use openrdson_core::{Figure, Span, StackLayer, ViaLayers, find_stack_layer, find_via};
+use openrdson_core::{Figures, Span, find_stack_layer, find_via};
 
-// A bottom and a top, if there are any.
-#[derive(Clone, Copy)]
-pub enum ZRange {
-    From(f64, f64),
-    Nothing,
+// A bottom and a top.
+#[derive(Clone, Copy, Debug, PartialEq)]
+pub struct ZRange {
+    pub bottom: f64,
+    pub top: f64,
 }
 
 // Height to height + thickness, where both are present.
-fn from_to(height: Figure, thickness: Figure) -> ZRange
-    ensures { spec.range_value result ≡ spec.from_to (figure_value height) (figure_value thickness) }
+fn from_to(figures: Figures) -> Option<ZRange>
+    ensures { result ≡ spec.from_to figures.height figures.thickness }
 {
-    match height {
-        Figure::Absent => ZRange::Nothing,
-        Figure::Present(h) => match thickness {
-            Figure::Absent => ZRange::Nothing,
-            Figure::Present(t) => ZRange::From(h, h + t),
-        },
-    }
+    let bottom = figures.height?;
+    let thickness = figures.thickness?;
+    Some(ZRange {
+        bottom,
+        top: bottom + thickness,
+    })
 }
 
 // The range of the diffusion of a name.
-fn diffusion_range(diffusions: &[u8], name: &[u8]) -> ZRange
+#[tactic(auto, unfolding(crate::specs::Ranges::diffusion_range))]
+fn diffusion_range(diffusions: &[u8], name: &[u8]) -> Option<ZRange>
     requires { stack_ok diffusions.now ≡ true }
-    ensures { spec.range_value result ≡ spec.diffusion_range diffusions.now name.now }
+    ensures { result ≡ spec.diffusion_range diffusions.now name.now }
 {
-    let found = find_stack_layer(diffusions, name);
-    match found {
-        StackLayer::Found(height, thickness) => from_to(height, thickness),
-        StackLayer::Nothing => ZRange::Nothing,
-        StackLayer::Refused(_) => ZRange::Nothing,
-    }
+    from_to(find_stack_layer(diffusions, name)?)
 }
 
 // The range of the conductor of a name, else of the diffusion. A conductor with a missing figure ends the search.
-fn layer_range(conductors: &[u8], diffusions: &[u8], name: &[u8]) -> ZRange
-    requires { (stack_ok conductors.now ≡ true) × (stack_ok diffusions.now ≡ true) }
-    ensures { spec.range_value result ≡ spec.layer_range conductors.now diffusions.now name.now }
+#[tactic(auto, unfolding(crate::specs::Ranges::layer_range))]
+fn layer_range(conductors: &[u8], diffusions: &[u8], name: &[u8]) -> Option<ZRange>
+    requires conductors { stack_ok conductors.now ≡ true }
+    requires diffusions { stack_ok diffusions.now ≡ true }
+    ensures { result ≡ spec.layer_range conductors.now diffusions.now name.now }
 {
-    let found = find_stack_layer(conductors, name);
-    match found {
-        StackLayer::Found(height, thickness) => from_to(height, thickness),
-        StackLayer::Nothing => diffusion_range(diffusions, name),
-        StackLayer::Refused(_) => ZRange::Nothing,
+    match find_stack_layer(conductors, name) {
+        Some(figures) => from_to(figures),
+        None => diffusion_range(diffusions, name),
     }
 }
 
 // The range of the layer at an end of a via.
-fn end_range(conductors: &[u8], diffusions: &[u8], vias: &[u8], end: Span) -> ZRange
-    requires { (stack_ok conductors.now ≡ true) × (stack_ok diffusions.now ≡ true) × span_within vias.now end }
-    ensures { spec.range_value result ≡ spec.end_range conductors.now diffusions.now (spanned vias.now end) }
+fn end_range(conductors: &[u8], diffusions: &[u8], vias: &[u8], end: Option<Span>) -> Option<ZRange>
+    requires conductors { stack_ok conductors.now ≡ true }
+    requires diffusions { stack_ok diffusions.now ≡ true }
+    requires within { IfSome end (span_within vias.now) }
+    ensures { result ≡ spec.end_range conductors.now diffusions.now (option_map (spanned vias.now) end) }
 {
-    match end {
-        Span::Empty => ZRange::Nothing,
-        Span::Part(start, count) => {
-            layer_range(conductors, diffusions, &vias[start..start + count])
-        }
-    }
+    let span = end?;
+    let name = &vias[span.start..span.start + span.count];
+    layer_range(conductors, diffusions, name)
 }
 
 // Top of the bottom layer to bottom of the top layer.
-fn between(bottom: ZRange, top: ZRange) -> ZRange
-    ensures { spec.range_value result ≡ spec.between (spec.range_value bottom) (spec.range_value top) }
+fn between(bottom: Option<ZRange>, top: Option<ZRange>) -> Option<ZRange>
+    ensures { result ≡ spec.between bottom top }
 {
-    match bottom {
-        ZRange::Nothing => ZRange::Nothing,
-        ZRange::From(_, z0) => match top {
-            ZRange::Nothing => ZRange::Nothing,
-            ZRange::From(z1, _) => ZRange::From(z0, z1),
-        },
-    }
+    let low = bottom?;
+    let high = top?;
+    Some(ZRange {
+        bottom: low.top,
+        top: high.bottom,
+    })
 }
 
 // The range of a physical name: by the via rule where it is a via's. For a caller that has checked the three blocks.
-pub fn stack_range(conductors: &[u8], diffusions: &[u8], vias: &[u8], name: &[u8]) -> ZRange
-    requires { (stack_ok conductors.now ≡ true) × (stack_ok diffusions.now ≡ true) × (vias_ok vias.now ≡ true) }
-    ensures { spec.range_value result ≡ spec.stack_range conductors.now diffusions.now vias.now name.now }
+#[tactic(auto, unfolding(crate::specs::Ranges::stack_range))]
+pub fn stack_range(conductors: &[u8], diffusions: &[u8], vias: &[u8], name: &[u8]) -> Option<ZRange>
+    requires conductors { stack_ok conductors.now ≡ true }
+    requires diffusions { stack_ok diffusions.now ≡ true }
+    requires vias { vias_ok vias.now ≡ true }
+    ensures { result ≡ spec.stack_range conductors.now diffusions.now vias.now name.now }
 {
-    let found = find_via(vias, name);
-    match found {
-        ViaLayers::Found(bottom, top) => {
-            let low = end_range(conductors, diffusions, vias, bottom);
-            let high = end_range(conductors, diffusions, vias, top);
+    match find_via(vias, name) {
+        Some(layers) => {
+            let low = end_range(conductors, diffusions, vias, layers.bottom);
+            let high = end_range(conductors, diffusions, vias, layers.top);
             between(low, high)
         }
-        ViaLayers::Nothing => layer_range(conductors, diffusions, name),
-        ViaLayers::Refused(_) => ZRange::Nothing,
+        None => layer_range(conductors, diffusions, name),
     }
 }

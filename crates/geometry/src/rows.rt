@@ -1,29 +1,18 @@
 // Writing a row of a region list.
 ghost use Rattle.std.specs.Prelude.{◌≡◌, [], ◌∷◌, ◌<◌, length};
 ghost use Rattle.openrdson_core.specs.Bounds.{the_bbox};
-ghost use Rattle.geometry.specs.Regions.{the_regions, Even, put_regions, kind_of, min_x_of, min_y_of, max_x_of, max_y_of, start_of, count_of};
+ghost use Rattle.geometry.specs.Regions.{the_regions, Even, put_regions, row_kind, min_x_of, min_y_of, max_x_of, max_y_of, start_of, count_of};
 
+use crate::regions::RowKind;
 use openrdson_core::{Bbox, Solid, SolidRegion};
 
-// 0 for a box, 1 for a prism.
-pub fn kind_of(solid: Solid) -> u8
-    ensures { result ≡ kind_of solid }
+// The kind of a solid's row.
+pub fn row_kind(solid: Solid) -> RowKind
+    ensures { result ≡ row_kind solid }
 {
     match solid {
-        Solid::Box {
-            min_x: _,
-            min_y: _,
-            max_x: _,
-            max_y: _,
-            z_bottom: _,
-            z_top: _,
-        } => 0,
-        Solid::Prism {
-            z_bottom: _,
-            z_top: _,
-            start: _,
-            count: _,
-        } => 1,
+        Solid::Box { .. } => RowKind::Box,
+        Solid::Prism { .. } => RowKind::Prism,
     }
 }
 
@@ -37,20 +26,14 @@ fn sides_of(solid: Solid) -> Bbox
             min_y,
             max_x,
             max_y,
-            z_bottom: _,
-            z_top: _,
+            ..
         } => Bbox {
             min_x,
             min_y,
             max_x,
             max_y,
         },
-        Solid::Prism {
-            z_bottom: _,
-            z_top: _,
-            start: _,
-            count: _,
-        } => Bbox {
+        Solid::Prism { .. } => Bbox {
             min_x: 0.0,
             min_y: 0.0,
             max_x: 0.0,
@@ -68,23 +51,12 @@ struct Part {
 
 // A prism's part; zeros for a box.
 fn part_of(solid: Solid) -> Part
-    ensures { (result.start ≡ start_of solid) × (result.count ≡ count_of solid) }
+    ensures start { result.start ≡ start_of solid }
+    ensures count { result.count ≡ count_of solid }
 {
     match solid {
-        Solid::Box {
-            min_x: _,
-            min_y: _,
-            max_x: _,
-            max_y: _,
-            z_bottom: _,
-            z_top: _,
-        } => Part { start: 0, count: 0 },
-        Solid::Prism {
-            z_bottom: _,
-            z_top: _,
-            start,
-            count,
-        } => Part { start, count },
+        Solid::Box { .. } => Part { start: 0, count: 0 },
+        Solid::Prism { start, count, .. } => Part { start, count },
     }
 }
 
@@ -105,13 +77,14 @@ pub fn put_region(
     k: usize,
     region: SolidRegion,
 )
-    requires { Even (the_regions kinds.old min_x.old min_y.old max_x.old max_y.old z_bottom.old z_top.old starts.old counts.old materials.old nets.old polygons.old) × (k < length kinds.old) }
+    requires even { Even (the_regions kinds.old min_x.old min_y.old max_x.old max_y.old z_bottom.old z_top.old starts.old counts.old materials.old nets.old polygons.old) }
+    requires inside { k < length kinds.old }
     ensures { (the_regions kinds.new min_x.new min_y.new max_x.new max_y.new z_bottom.new z_top.new starts.new counts.new materials.new nets.new polygons.new) ≡ put_regions (the_regions kinds.old min_x.old min_y.old max_x.old max_y.old z_bottom.old z_top.old starts.old counts.old materials.old nets.old polygons.old) k (region ∷ []) }
 {
     let solid = region.solid;
     let sides = sides_of(solid);
     let part = part_of(solid);
-    kinds[k] = kind_of(solid);
+    kinds[k] = u8::from(row_kind(solid));
     min_x[k] = sides.min_x;
     min_y[k] = sides.min_y;
     max_x[k] = sides.max_x;

@@ -1,6 +1,5 @@
 -- Lists and the places in them, over any type of element. A place counts from 0.
-use Rattle.std.specs.Prelude.{ℕ, zero, suc, ◌+◌, ◌-◌, ◌<◌, Bool, true, false, ◌&&◌, ◌||◌, cond, List, [], ◌∷◌, ◌++◌, map, ltb, length, take, drop, get_or}
-use Rattle.std.proofs.Math.Option.{Option, some, none}
+use Rattle.std.specs.Prelude.{ℕ, zero, suc, ◌+◌, ◌-◌, ◌<◌, Bool, true, false, ◌&&◌, ◌||◌, cond, List, [], ◌∷◌, ◌++◌, map, ltb, length, take, drop, get_or, Option, Some, None}
 
 -- ---- what a loop writes
 
@@ -65,8 +64,8 @@ any_below (suc n) test = any_below n test || test n
 
 -- the first place at which the test holds, of the n places from i on
 unfoldable pub first : (ℕ → Bool) → ℕ → ℕ → Option ℕ
-first test zero i = none
-first test (suc n) i = let later = first test n (i + 1) in cond (test i) (some i) later
+first test zero i = None
+first test (suc n) i = let later = first test n (i + 1) in cond (test i) (Some i) later
 
 -- ---- neighbours on a ring of n places: the first and the last are neighbours
 

@@ -28,9 +28,6 @@ use Rattle.meshing.proofs.CellLaws.{some_cell}
 
 -- ---- products of cells and of nodes
 
-pub product_fits : {a b : ℕ} → a ≤ 4097 → b ≤ 4097 → Fits w64 (a * b)
-product_fits h k = Fits-le (mul-le-mul h k) (Fits-lit tt)
-
 pub cube_fits : {a b c : ℕ} → a ≤ 4097 → b ≤ 4097 → c ≤ 4097 → Fits w64 (a * b * c)
 cube_fits h k l = Fits-le (mul-le-mul (mul-le-mul h k) l) (Fits-lit tt)
 

@@ -1,6 +1,7 @@
 -- A box's lists, written: what they add to the mesh. Assumes nothing.
 use mathlib.Core.Path.{◌≡◌, refl, sym, ap, subst, ◌∙◌}
 use mathlib.Core.List.{List}
+use Rattle.std.specs.Prelude.{Result, Ok}
 use Prim.Native.Nat.{ℕ, ◌+◌, ◌*◌}
 use lib.ListN.{length}
 use lib.Ieee.{Float}
@@ -10,12 +11,12 @@ use Rattle.lists.proofs.Fills.{elems_length}
 use Rattle.openrdson_core.specs.Mesh.{Mesh, the_mesh, the_counts}
 use Rattle.openrdson_core.specs.declared.mesh.Counts.{Counts}
 use Rattle.openrdson_core.specs.declared.bounds.Bbox.{Bbox}
+use Rattle.openrdson_core.specs.declared.refusals.Refusal.{Refusal}
+use Rattle.openrdson_core.specs.Answers.{answer}
 use Rattle.meshing.specs.Cells.{axis_at}
 use Rattle.meshing.specs.Grid.{grid, grid_nodes, grid_cells, hex_places}
-use Rattle.meshing.specs.Added.{Part, meshed_answer, Adds}
+use Rattle.meshing.specs.Added.{Part, Adds}
 use Rattle.meshing.specs.Boxes.{the_cells, box_part, box_of_cells}
-use Rattle.meshing.specs.declared.boxes.Meshed.{Meshed}
-use Rattle.meshing.specs.declared.boxes.Meshed.TheVariants.{Done}
 use Rattle.meshing.proofs.GridLaws.{grid_length}
 
 -- six equal lists are equal meshes
@@ -23,10 +24,10 @@ pub same_mesh : {a a' b b' c c' : List Float} {d d' e e' f f' : List ℕ} → a 
 same_mesh p q r s t u = cc
 
 -- what is added depends on the answer alone
-pub same_adds : {a b : Answer Part} {c : Counts} {region : ℕ} {m m' : Mesh} {r : Meshed} → a ≡ b → Adds a c region m m' r → Adds b c region m m' r
+pub same_adds : {a b : Answer Part} {c : Counts} {region : ℕ} {m m' : Mesh} {r : Result Counts Refusal} → a ≡ b → Adds a c region m m' r → Adds b c region m m' r
 same_adds {c = c} {region = region} {m = m} {m' = m'} {r = r} e = subst (λ (a : Answer Part). Adds a c region m m' r) e
 
-pub refused_adds : {c : Counts} {region : ℕ} {m : Mesh} {r : Meshed} (a : Answer Part) {k : ℕ} → a ≡ refused k → meshed_answer r ≡ refused k → Adds a c region m m r
+pub refused_adds : {c : Counts} {region : ℕ} {m : Mesh} {r : Result Counts Refusal} (a : Answer Part) {k : ℕ} → a ≡ refused k → answer r ≡ refused k → Adds a c region m m r
 refused_adds a e f = rw e (record { answer = f; lists = refl })
 
 module _ (b : Bbox) (z0 z1 : Float) (nx ny nz : ℕ) (c : Counts) (region : ℕ) (m : Mesh) where
@@ -45,7 +46,7 @@ module _ (b : Bbox) (z0 z1 : Float) (nx ny nz : ℕ) (c : Counts) (region : ℕ)
       → places ≡ put m.places (8 * c.elements) (hex_places c.nodes nx ny nz)
       → regions ≡ put m.regions c.elements (elems (grid_cells nx ny nz) (λ _. region))
       → Adds (given (box_of_cells c.nodes b z0 z1 (the_cells nx ny nz))) c region m (the_mesh xs ys zs kinds places regions)
-      (Done (the_counts (c.nodes + grid_nodes nx ny nz) (c.elements + grid_cells nx ny nz)))
+      (Ok (the_counts (c.nodes + grid_nodes nx ny nz) (c.elements + grid_cells nx ny nz)))
   unfolding box_part
   box_adds p q r s t u =
       record {

@@ -1,18 +1,20 @@
 -- Clipping, turn by turn: a triangle written, a place taken out of the walk, and the loop over the ears. Assumes nothing.
 use mathlib.Core.Path.{◌≡◌, refl, sym, ap, ◌∙◌}
 use mathlib.Core.Bool.{Bool}
-use mathlib.Core.List.{List, [], ◌∷◌, ◌++◌}
-use mathlib.Core.Option.{none, some}
+use mathlib.Core.List.{List, [], ◌∷◌, ◌++◌, append_assoc}
+use Rattle.std.specs.Prelude.{Option, Some, None}
 use Prim.Native.Nat.{ℕ, suc, ◌+◌, ◌-◌, ◌*◌, ◌≤◌, ◌<◌}
 use native.Mathlib.Nat.{add-zero}
 use native.Mathlib.Numerals.{add-one}
 use native.Mathlib.Omega.{arith}
 use lib.ListN.{length, get_or, take, drop, set, length-append, length-take, length-drop, take-append-drop, get_or-append}
+use Rattle.std.specs.Prelude.{Some, None}
 use lib.Seq.{length-take-le, take_at, take-suc, drop-cons, drop_at, append_snoc, set_at, get_or-take, get_or-drop}
+use Rattle.std.specs.List.{copy_within}
 use Rattle.lists.specs.Answer.{Answer, refused, given, map_answer}
 use Rattle.lists.specs.Lists.{Below, first, next_of, prev_of, put}
 use Rattle.lists.proofs.Fills.{put_length}
-use Rattle.lists.proofs.Places.{below_at, below_take, below_drop, below_append}
+use Rattle.lists.proofs.Places.{below_take, below_drop, below_append}
 use Rattle.lists.proofs.Parts.{rest_back_long, rest_back_later}
 use Rattle.lists.proofs.Searches.{first_below}
 use Rattle.meshing.specs.Triangles.{Triangle, tri, corners}
@@ -20,47 +22,19 @@ use Rattle.meshing.specs.Clipping.{triangle_at, without, cut_at, cutting, clip}
 
 -- ---- a place taken out of a walk
 
--- place i is taken out of w one place later, and so far the places above k are done
-abbrev pub raised : List ℕ → ℕ → ℕ → List ℕ
-raised w i k = take (k + 1) w ++ drop k (without w i)
-
 module _ (w : List ℕ) (i : ℕ) where
   pub without_length : i < length w → length (without w i) + 1 ≡ length w
   without_length h = simp (length-append, length-take, length-drop) (omega arith)
 
-  -- what stands before place i stays
-  without_at : (k : ℕ) → k < i → i < length w → get_or (without w i) k 0 ≡ get_or w k 0
-  without_at k h l = get_or-append (take i w) (drop (i + 1) w) 0 k (omega (arith, length-take i w)) ∙ get_or-take i w k 0 h
-
-  pub raised_start : i < length w → w ≡ raised w i i
-  raised_start h =
-      sym (ap (λ (l : List ℕ). take (i + 1) w ++ l) (drop_at (take i w) (drop (i + 1) w) i (length-take-le i w (omega arith))) ∙ take-append-drop (i + 1) w)
-
-  step : (k : ℕ) → k < i → i < length w → set (raised w i (k + 1)) (k + 1) (get_or (raised w i (k + 1)) k 0) ≡ raised w i k
-  step k h l =
-      let n : length (take (k + 1) w) ≡ k + 1 = length-take-le (k + 1) w (omega arith) in
-      let front : take (k + 1 + 1) w ≡ take (k + 1) w ++ get_or w (k + 1) 0 ∷ [] = rw (add-one (k + 1)) (take-suc w (k + 1) 0 (omega arith)) in
-      let whole : raised w i (k + 1) ≡ take (k + 1) w ++ get_or w (k + 1) 0 ∷ drop (k + 1) (without w i) =
-      ap (λ (x : List ℕ). x ++ drop (k + 1) (without w i)) front ∙ append_snoc (take (k + 1) w) (get_or w (k + 1) 0) (drop (k + 1) (without w i)) in
-      let v : get_or (raised w i (k + 1)) k 0 ≡ get_or (without w i) k 0 =
-      ap (λ (x : List ℕ). get_or x k 0) whole
-      ∙ get_or-append (take (k + 1) w) (get_or w (k + 1) 0 ∷ drop (k + 1) (without w i)) 0 k (omega arith)
-      ∙ get_or-take (k + 1) w k 0 (omega arith)
-      ∙ sym (without_at k h l) in
-      let next : drop k (without w i) ≡ get_or (without w i) k 0 ∷ drop (k + 1) (without w i) = rw (add-one k) (drop-cons (without w i) k 0 (omega (arith, without_length l))) in
-      ap (λ (x : ℕ). set (raised w i (k + 1)) (k + 1) x) v
-      ∙ ap (λ (x : List ℕ). set x (k + 1) (get_or (without w i) k 0)) whole
-      ∙ set_at (take (k + 1) w) (get_or w (k + 1) 0) (drop (k + 1) (without w i)) (get_or (without w i) k 0) (k + 1) n
-      ∙ ap (λ (x : List ℕ). take (k + 1) w ++ x) (sym next)
-
-  -- place k gets what stands one lower
-  pub raised_more : (k : ℕ) (now : List ℕ) → now ≡ raised w i k → 0 < k → k ≤ i → i < length w → set now k (get_or now (k - 1) 0) ≡ raised w i (k - 1)
-  raised_more k now is p h l =
-      let e : k ≡ k - 1 + 1 = omega arith in
-      rw is (ap (λ (x : ℕ). set (raised w i x) x (get_or (raised w i x) (k - 1) 0)) e ∙ step (k - 1) (omega arith) l)
-
-  pub raised_end : (k : ℕ) (now : List ℕ) → now ≡ raised w i k → k ≡ 0 → i < length w → drop 1 now ≡ without w i
-  raised_end k now is e l = rw (is, e) (drop_at (take 1 w) (without w i) 1 (length-take-le 1 w (omega arith)))
+  -- the places before i move one up
+  pub moved_up : i < length w → drop 1 (copy_within w 0 i 1) ≡ without w i
+  moved_up h =
+      let same : i - 0 ≡ i = omega arith in
+      let next : 1 + i ≡ i + 1 = omega arith in
+      ap (λ (k : ℕ). drop 1 (take 1 w ++ take k w ++ drop (1 + k) w)) same
+      ∙ ap (drop 1) (append_assoc (take 1 w) (take i w) (drop (1 + i) w))
+      ∙ drop_at (take 1 w) (take i w ++ drop (1 + i) w) 1 (length-take-le 1 w (omega arith))
+      ∙ ap (λ (k : ℕ). take i w ++ drop k w) next
 
 -- the triangle at place i, written by the neighbours' places p and q
 pub cut_written : (w : List ℕ) (i p q : ℕ) → p ≡ prev_of (length w) i → q ≡ next_of (length w) i → (out : List ℕ) (t : ℕ) (now : List ℕ)
@@ -100,10 +74,10 @@ module _ (ear : List ℕ → ℕ → Bool) (w : List ℕ) where
       let e : length w - 3 ≡ suc (length w - 4) = omega arith in
       ap (λ (k : ℕ). cutting ear k w) e
 
-  clip_stalls : 3 < length w → first (ear w) (length w) 0 ≡ none → clip ear w ≡ refused 4
+  clip_stalls : 3 < length w → first (ear w) (length w) 0 ≡ None → clip ear w ≡ refused 4
   clip_stalls h f = clip_more h ∙ rw f
 
-  clip_cuts : (i : ℕ) → 3 < length w → i < length w → first (ear w) (length w) 0 ≡ some i → clip ear w ≡ map_answer (λ ts. triangle_at w i ∷ ts) (clip ear (without w i))
+  clip_cuts : (i : ℕ) → 3 < length w → i < length w → first (ear w) (length w) 0 ≡ Some i → clip ear w ≡ map_answer (λ ts. triangle_at w i ∷ ts) (clip ear (without w i))
   clip_cuts i h l f =
       let e : length w - 4 ≡ length (without w i) - 3 = omega (arith, without_length w i l) in
       clip_more h ∙ ap (cut_at (cutting ear (length w - 4)) w) f ∙ ap (λ (k : ℕ). map_answer (λ ts. triangle_at w i ∷ ts) (cutting ear k (without w i))) e
@@ -147,13 +121,6 @@ module _ (ear : List ℕ → ℕ → Bool) (n : ℕ) (v : List ℕ) where
     written_long : (t : Triangle) (out' : List ℕ) → out' ≡ put out (at * 3) (corners (t ∷ [])) → length out' ≡ length out
     written_long (tri a b c) out' o = ap length o ∙ put_length out (at * 3) (a ∷ b ∷ c ∷ []) (omega (arith, k.room, k.place))
 
-    -- a vertex that remains
-    pub run_vertex : (p : ℕ) → at ≤ p → p < length w → get_or w p 0 < n
-    run_vertex p h l =
-        let e : at + (p - at) ≡ p = omega arith in
-        let b : get_or (drop at w) (p - at) 0 < n = below_at n (drop at w) (p - at) k.below (omega (arith, length-drop at w)) in
-        rw (get_or-drop at w (p - at) 0, e) at b
-
     module _ (rest : List ℕ) (all : rest ≡ drop at w) where
       rest_long : length rest + at ≡ length v
       rest_long = omega (arith, ap length all, length-drop at w, k.same, k.place)
@@ -162,14 +129,14 @@ module _ (ear : List ℕ → ℕ → Bool) (n : ℕ) (v : List ℕ) where
       run_below = rw all k.below
 
       -- the place found is one of what remains
-      pub run_at : (i : ℕ) → some i ≡ first (ear rest) (length rest) 0 → i < length rest
+      pub run_at : (i : ℕ) → Some i ≡ first (ear rest) (length rest) 0 → i < length rest
       run_at i f = omega (arith, first_below (ear rest) (length rest) 0 i (sym f))
 
       run_rest : clip ear v ≡ map_answer (λ ts. k.done ++ ts) (clip ear rest)
       run_rest = rw all k.run
 
       -- an ear is cut
-      pub run_cut : (i : ℕ) (new out' : List ℕ) → at + 3 < length v → some i ≡ first (ear rest) (length rest) 0
+      pub run_cut : (i : ℕ) (new out' : List ℕ) → at + 3 < length v → Some i ≡ first (ear rest) (length rest) 0
           → drop 1 new ≡ without rest i → length new ≡ length rest → out' ≡ put out (at * 3) (corners (triangle_at rest i ∷ []))
           → Run ear n v (take at w ++ (new ++ drop (length w - at) (drop at w))) out' (at + 1)
       run_cut i new out' h f is long o =
@@ -191,7 +158,7 @@ module _ (ear : List ℕ → ℕ → Bool) (n : ℕ) (v : List ℕ) where
           }
 
       -- there is no ear
-      pub run_stalls : at + 3 < length v → none ≡ first (ear rest) (length rest) 0 → refused 4 ≡ map_answer corners (clip ear v)
+      pub run_stalls : at + 3 < length v → None ≡ first (ear rest) (length rest) 0 → refused 4 ≡ map_answer corners (clip ear v)
       run_stalls h f = sym (ap (map_answer corners) (run_rest ∙ ap (map_answer (λ ts. k.done ++ ts)) (clip_stalls ear rest (omega (arith, rest_long)) (sym f))))
 
     -- three vertices remain

@@ -1,7 +1,7 @@
 -- The run of an accepted clipping, as a relation: which ear was cut when. Assumes nothing.
 use mathlib.Core.Path.{◌≡◌, refl, subst}
 use mathlib.Core.Bool.{Bool, true, false}
-use mathlib.Core.Option.{Option, none, some}
+use Rattle.std.specs.Prelude.{Option, Some, None}
 use mathlib.Core.List.{List, [], ◌∷◌}
 use Prim.Native.Nat.{ℕ, zero, suc, ◌+◌, ◌<◌}
 use native.Mathlib.Omega.{arith}
@@ -44,5 +44,5 @@ cutting_clipped ear (suc k) w ts l e = found (cutting_clipped ear k) (first (ear
         subst (Clipped ear w) g (cut w i us p (omega arith) h.holds (λ j q. h.earlier j (omega arith) q) (later (without w i) us (omega (arith, without_length w i p)) f))
 
     found : Later → (o : Option ℕ) → first (ear w) (length w) 0 ≡ o → cut_at (cutting ear k) w o ≡ given ts → Clipped ear w ts
-    found later none f e = refused_given e
-    found later (some i) f e = rest later i (first_is (ear w) (length w) 0 i f) (cutting ear k (without w i)) refl e
+    found later None f e = refused_given e
+    found later (Some i) f e = rest later i (first_is (ear w) (length w) 0 i f) (cutting ear k (without w i)) refl e

@@ -1,18 +1,16 @@
 -- The ear rule, test by test, and what a search for the first ear tells. Assumes nothing.
-use mathlib.Core.Path.{◌≡◌, refl, sym, ap, ◌∙◌}
+use mathlib.Core.Path.{◌≡◌, refl, sym, ◌∙◌}
 use mathlib.Core.Bool.{Bool, true, false, not, ◌&&◌, ◌||◌, false≢true}
 use mathlib.Core.List.{List}
-use Prim.Native.Nat.{ℕ, ◌<◌}
+use Prim.Native.Nat.{ℕ}
 use lib.Dec.{eqb}
-use lib.ListN.{length, get_or}
+use lib.ListN.{get_or}
 use lib.Ieee.{Float, lt}
-use Rattle.lists.specs.Lists.{all_below, next_of, prev_of}
-use Rattle.lists.proofs.Scans.{and_false, all_fails}
+use Rattle.lists.proofs.Scans.{and_false}
 use Rattle.binary64.specs.Constants.{zero64}
 use Rattle.openrdson_core.specs.Points.{point_at}
 use Rattle.openrdson_core.specs.declared.points.Point.{Point}
-use Rattle.meshing.specs.Clipping.{after}
-use Rattle.meshing.specs.Ears.{turn, side, has_neg, has_pos, in_triangle, blocks, is_clear, is_ear_of, is_ear}
+use Rattle.meshing.specs.Ears.{side, has_neg, has_pos, in_triangle, blocks}
 
 -- ---- a point and a triangle
 
@@ -68,34 +66,3 @@ module _ (xs ys : List Float) (a b c j : ℕ) (p pa pb pc : Point) (is-p : p ≡
 -- vertex j of the walk is no hindrance to the triangle a b c
 abbrev pub free : List Float → List Float → List ℕ → ℕ → ℕ → ℕ → ℕ → Bool
 free xs ys w a b c j = not (blocks xs ys a b c (get_or w j 0))
-
-pub free_next : (xs ys : List Float) (w : List ℕ) (a b c j : ℕ) (r : Bool) → r ≡ blocks xs ys a b c (get_or w j 0) → r ≡ false → free xs ys w a b c j ≡ true
-free_next xs ys w a b c j r is e = ap not (sym is ∙ e)
-
--- the neighbours' places p and q, the points there, and what the test for a left turn says
-module _ (xs ys : List Float) (w : List ℕ) (i p q : ℕ) (is-p : p ≡ prev_of (length w) i) (is-q : q ≡ next_of (length w) i)
-    (pa pb pc : Point) (is-a : pa ≡ point_at xs ys (get_or w p 0)) (is_b : pb ≡ point_at xs ys (get_or w i 0)) (is_c : pc ≡ point_at xs ys (get_or w q 0))
-    (r : Bool) (is : r ≡ lt zero64 (turn pa pb pc)) where
-  same_ear : is_ear xs ys w i ≡ is_ear_of xs ys w (get_or w p 0) (get_or w i 0) (get_or w q 0)
-  same_ear = ap (λ (k : ℕ). is_ear_of xs ys w (get_or w k 0) (get_or w i 0) (after w i)) (sym is-p) ∙ ap (λ (k : ℕ). is_ear_of xs ys w (get_or w p 0) (get_or w i 0) (get_or w k 0)) (sym is-q)
-
-  turned : (v : Bool) → r ≡ v → lt zero64 (turn (point_at xs ys (get_or w p 0)) (point_at xs ys (get_or w i 0)) (point_at xs ys (get_or w q 0))) ≡ v
-  turned v e =
-      ap (λ (x : Point). lt zero64 (turn x (point_at xs ys (get_or w i 0)) (point_at xs ys (get_or w q 0)))) (sym is-a)
-      ∙ ap (λ (x : Point). lt zero64 (turn pa x (point_at xs ys (get_or w q 0)))) (sym is_b)
-      ∙ ap (λ (x : Point). lt zero64 (turn pa pb x)) (sym is_c)
-      ∙ sym is
-      ∙ e
-
-  pub ear_no_turn : r ≡ false → is_ear xs ys w i ≡ false
-  unfolding is_ear_of
-  ear_no_turn e = same_ear ∙ rw (turned false e)
-
-  pub ear_blocked : r ≡ true → (j : ℕ) → j < length w → (s : Bool) → s ≡ blocks xs ys (get_or w p 0) (get_or w i 0) (get_or w q 0) (get_or w j 0) → s ≡ true → is_ear xs ys w i ≡ false
-  unfolding is_ear_of is_clear
-  ear_blocked e j l s is-s t =
-      same_ear ∙ rw (turned true e) (all_fails (free xs ys w (get_or w p 0) (get_or w i 0) (get_or w q 0)) (length w) j l (ap not (sym is-s ∙ t)))
-
-  pub ear_yes : r ≡ true → (j : ℕ) → j ≡ length w → all_below j (free xs ys w (get_or w p 0) (get_or w i 0) (get_or w q 0)) ≡ true → is_ear xs ys w i ≡ true
-  unfolding is_ear_of is_clear
-  ear_yes e j m s = same_ear ∙ rw (turned true e) (ap (λ (k : ℕ). all_below k (free xs ys w (get_or w p 0) (get_or w i 0) (get_or w q 0))) (sym m) ∙ s)

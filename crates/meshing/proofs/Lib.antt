@@ -15,6 +15,7 @@ pub mod CellLaws
 pub mod BoxLaws
 pub mod GridLaws
 pub mod BoxWrites
+pub mod Chunks
 pub mod QuadLaws
 pub mod ScanlineLaws
 pub mod CrossingLaws
@@ -26,3 +27,4 @@ pub mod ModelLaws
 pub mod WholeLaws
 pub mod VolumeLaws
 pub mod WeldLaws
+pub mod Placed

@@ -1,30 +1,46 @@
 -- A model: what a row of the region list adds, and a turn of the loop over the regions. Assumes nothing.
 use Prim.Native.Nat.{ℕ, ◌+◌, ◌<◌, ◌≤◌}
 use mathlib.Core.Path.{◌≡◌, refl, sym, ap, ◌∙◌}
-use mathlib.Core.Bool.{Bool, true, false, not, ◌&&◌}
+use mathlib.Core.Bool.{Bool, true, false, ◌&&◌}
 use mathlib.Core.List.{List, [], ◌∷◌, ◌++◌}
 use native.Mathlib.Omega.{arith}
 use lib.Dec.{eqb, leb}
 use lib.ListN.{length, set, length-append}
-use borrow.Author.Tests.{not-true, not-false, leb-true, eqb-true}
+use borrow.Author.Tests.{leb-true, eqb-true}
 use lib.Ieee.{Float}
+use Rattle.std.specs.Prelude.{Result, Ok, Err}
+use Rattle.std.specs.Result.{result_unwrap_or}
 use Rattle.lists.specs.Answer.{Answer, refused, given, unless, and_then, map_answer, left, status}
 use Rattle.lists.specs.Lists.{put, fold_below, all_of}
 use Rattle.lists.proofs.Answers.{passed}
 use Rattle.lists.proofs.Scans.{both}
 use Rattle.lists.proofs.Folds.{fold_more}
 use Rattle.lists.proofs.Fills.{put_none, put_set}
+use Rattle.lists.proofs.Passing.{all_of_from, all_of_fails}
+use Rattle.std.specs.Bool.{MatchBool}
+use Rattle.std.specs.List.{AllWithin, HoldsAt}
 use Rattle.openrdson_core.specs.Mesh.{Mesh, parallel, within}
+use Rattle.openrdson_core.specs.Answers.{answer}
 use Rattle.openrdson_core.specs.declared.mesh.Counts.{Counts}
+use Rattle.openrdson_core.specs.declared.refusals.Refusal.{Refusal}
 use Rattle.openrdson_core.specs.declared.solids.SolidRegion.{SolidRegion}
 use Rattle.geometry.specs.Regions.{Regions, even_regions, Even, region_at}
 use Rattle.geometry.proofs.RegionLaws.{even_of}
 use Rattle.meshing.specs.declared.cells.MeshConfig.{MeshConfig}
-use Rattle.meshing.specs.declared.boxes.Meshed.{Meshed}
-use Rattle.meshing.specs.declared.boxes.Meshed.TheVariants.{Done}
-use Rattle.meshing.specs.Added.{grown, meshed_answer, Adds}
+use Rattle.meshing.specs.Added.{grown, Adds}
 use Rattle.meshing.specs.Regions.{mesh_region}
 use Rattle.meshing.specs.Models.{Overrides, the_overrides, no_overrides, even_overrides, named, config_for, Run, row_part, tried, run_to, mesh_model, model_judged, RunAs, ModelAs}
+
+-- the counts that a call gives, or those before it
+pub unwrapped : (r : Result Counts Refusal) (c : Counts) → result_unwrap_or r c ≡ left (answer r) c
+unwrapped (Ok d) c = refl
+unwrapped (Err why) c = refl
+
+-- what std's `all` tells of a list, as a test of it
+pub all_decides : {A : Type 0} (test : A → Bool) (l : List A) (other : A) (r : Bool)
+    → MatchBool r (AllWithin (λ x. test x ≡ true) l 0 (length l)) ((k : ℕ) × (k < length l) × HoldsAt (λ x. test x ≡ false) l k) → r ≡ all_of test l
+all_decides test l other true h = sym (all_of_from test l other (λ i g. h i other (omega arith) g))
+all_decides test l other false h = sym (all_of_fails test l h.0 other h.1 (h.2 other))
 
 -- lists as long as those
 pub record Kept (m m' : Mesh) : Type 0 where
@@ -50,9 +66,9 @@ module _ (r : Regions) (px py : List Float) (o : Overrides) (default : MeshConfi
   row_built i c m e f = rw (sym e, f)
 
   -- region i is tried: what the row's call leaves is the next run
-  pub run_more : (i : ℕ) (s : Run) (m' : Mesh) {a : Meshed} {c' : Counts} {k : ℕ}
+  pub run_more : (i : ℕ) (s : Run) (m' : Mesh) {a : Result Counts Refusal} {c' : Counts} {k : ℕ}
       → Adds (row_part r px py o default i s.counts s.mesh) s.counts i s.mesh m' a
-      → c' ≡ left (meshed_answer a) s.counts → k ≡ status (meshed_answer a)
+      → c' ≡ left (answer a) s.counts → k ≡ status (answer a)
       → record { counts = c'; mesh = m'; diagnostics = s.diagnostics ++ k ∷ [] } ≡ tried r px py o default s i
   unfolding tried
   run_more i s m' adds e f =
@@ -73,13 +89,13 @@ module _ (r : Regions) (px py : List Float) (o : Overrides) (default : MeshConfi
     running_start ds = record { run = record { counts = refl; mesh = refl; diagnostics = sym (put_none ds 0) }; many = refl }
 
     -- region i is tried: what its call leaves, and its diagnostic
-    pub running_more : {ds : List ℕ} {i : ℕ} {c' c'' : Counts} {m' m'' : Mesh} {ds' : List ℕ} {a : Meshed} {k : ℕ} → Running ds i c' m' ds' → i < length ds
-        → Adds (row_part r px py o default i c' m') c' i m' m'' a → c'' ≡ left (meshed_answer a) c' → k ≡ status (meshed_answer a)
+    pub running_more : {ds : List ℕ} {i : ℕ} {c' c'' : Counts} {m' m'' : Mesh} {ds' : List ℕ} {a : Result Counts Refusal} {k : ℕ} → Running ds i c' m' ds' → i < length ds
+        → Adds (row_part r px py o default i c' m') c' i m' m'' a → c'' ≡ left (answer a) c' → k ≡ status (answer a)
         → Running ds (i + 1) c'' m'' (set ds' i k)
     running_more {ds} {i} {c'} {c''} {m'} {m''} {ds'} {a} {k} s room adds e f =
         let old = run_to r px py o default c m i in
         let new : Run = record { counts = c''; mesh = m''; diagnostics = old.diagnostics ++ k ∷ [] } in
-        let is : new ≡ tried r px py o default old i = run_more i old m'' (rw (s.run.counts, s.run.mesh) at adds) (e ∙ ap (left (meshed_answer a)) s.run.counts) f in
+        let is : new ≡ tried r px py o default old i = run_more i old m'' (rw (s.run.counts, s.run.mesh) at adds) (e ∙ ap (left (answer a)) s.run.counts) f in
         let next : new ≡ run_to r px py o default c m (i + 1) = fold_more (tried r px py o default) (record { counts = c; mesh = m; diagnostics = [] }) i refl is in
         record {
           run = record {
@@ -102,29 +118,6 @@ module _ (are_regions_even are_points_even are_overrides_even is_mesh_parallel :
 
   abbrev judged : Answer (Unit {0})
   judged = model_judged are_regions_even are_points_even are_overrides_even is_mesh_parallel regions points overrides are_counts_in are_overrides_named diagnostics
-
-  pub uneven_job : not even ≡ true → refused 16 ≡ judged
-  unfolding model_judged
-  uneven_job a = rw (not-true even a)
-
-  module _ (a : not even ≡ false) where
-    pub long_job : not short ≡ true → refused 2 ≡ judged
-    unfolding model_judged
-    long_job b = rw (not-false even a, not-true short b)
-
-    module _ (b : not short ≡ false) where
-      pub outside_job : not (are_counts_in && are_overrides_named) ≡ true → refused 15 ≡ judged
-      unfolding model_judged
-      outside_job d = rw (not-false even a, not-false short b, not-true (are_counts_in && are_overrides_named) d)
-
-      module _ (d : not (are_counts_in && are_overrides_named) ≡ false) where
-        pub narrow_job : not (leb regions diagnostics) ≡ true → refused 12 ≡ judged
-        unfolding model_judged
-        narrow_job e = rw (not-false even a, not-false short b, not-false (are_counts_in && are_overrides_named) d, not-true (leb regions diagnostics) e)
-
-        pub fine_job : not (leb regions diagnostics) ≡ false → given tt ≡ judged
-        unfolding model_judged
-        fine_job e = rw (not-false even a, not-false short b, not-false (are_counts_in && are_overrides_named) d, not-false (leb regions diagnostics) e)
 
   -- what a job that is meshed has
   pub record JobFine : Type 0 where
@@ -174,12 +167,12 @@ module _ (r : Regions) (px py : List Float) (o : Overrides) (default : MeshConfi
       (all_of named o.materials) (leb (length r.kinds) d) (run_to r px py o default c m (length r.kinds))
 
   -- a job that is turned down leaves the lists
-  pub model_refused : (ds : List ℕ) {a : Meshed} {k : ℕ} → refused k ≡ job_judged → meshed_answer a ≡ refused k → ModelAs (mesh_model r px py o default c m d) m ds a m ds
+  pub model_refused : (ds : List ℕ) {a : Result Counts Refusal} {k : ℕ} → refused k ≡ job_judged → answer a ≡ refused k → ModelAs (mesh_model r px py o default c m d) m ds a m ds
   model_refused ds e f = rw (model_is, sym e) (record { answer = f; mesh = refl; diagnostics = refl })
 
   -- one that is meshed leaves what its regions leave
   pub model_done : {ds ds' : List ℕ} {c' : Counts} {m' : Mesh} → given tt ≡ job_judged → RunAs (run_to r px py o default c m (length r.kinds)) c' m' ds ds'
-      → ModelAs (mesh_model r px py o default c m d) m ds (Done c') m' ds'
+      → ModelAs (mesh_model r px py o default c m d) m ds (Ok c') m' ds'
   model_done e s = rw (model_is, sym e) (record { answer = ap given s.counts; mesh = s.mesh; diagnostics = s.diagnostics })
 
   -- what the loop over the regions asks
@@ -210,8 +203,8 @@ same_job b c n p k q u v w x = rw (u, v, w, x)
 
 -- ---- `mesh_model` is the options call with no override: by their contracts both answer and leave the same
 
-pub no_override : (r : Regions) (px py : List Float) (default : MeshConfig) (c : Counts) (m : Mesh) (d : ℕ) (ds : List ℕ) {m₁ m₂ : Mesh} {ds₁ ds₂ : List ℕ} {a₁ a₂ : Meshed}
+pub no_override : (r : Regions) (px py : List Float) (default : MeshConfig) (c : Counts) (m : Mesh) (d : ℕ) (ds : List ℕ) {m₁ m₂ : Mesh} {ds₁ ds₂ : List ℕ} {a₁ a₂ : Result Counts Refusal}
     → ModelAs (mesh_model r px py no_overrides default c m d) m ds a₁ m₁ ds₁
     → ModelAs (mesh_model r px py (the_overrides [] [] []) default c m d) m ds a₂ m₂ ds₂
-    → (meshed_answer a₁ ≡ meshed_answer a₂) × (m₁ ≡ m₂) × (ds₁ ≡ ds₂)
+    → (answer a₁ ≡ answer a₂) × (m₁ ≡ m₂) × (ds₁ ≡ ds₂)
 no_override r px py default c m d ds p q = (p.answer ∙ sym q.answer, p.mesh ∙ sym q.mesh, p.diagnostics ∙ sym q.diagnostics)

@@ -1,31 +1,32 @@
 -- Meshing a prism: its triangles written, the ring that it is cleaned to, how that is meshed, and the refusals in order. Assumes nothing.
 use mathlib.Core.Path.{◌≡◌, refl, sym, ap, ◌∙◌}
 use mathlib.Core.Bool.{Bool, true, false}
-use mathlib.Core.List.{List, ◌++◌}
+use mathlib.Core.List.{List, [], ◌++◌}
 use Prim.Native.Nat.{ℕ, ◌+◌, ◌-◌, ◌*◌, ◌/◌, ◌≤◌, ◌<◌}
 use native.Mathlib.Omega.{arith}
 use lib.Dec.{eqb, leb}
 use lib.ListN.{length, get_or, take, drop, length-append}
 use lib.Ieee.{Float, nan, lt}
-use borrow.Author.Tests.{eq-eqb, ne_eqb, eqb-true, le-leb, lt-leb}
+use Rattle.std.specs.Prelude.{Result, Ok}
+use borrow.Author.Tests.{eq-eqb, ne_eqb, eqb-true}
+use Rattle.std.specs.Simd.{first_chunks}
 use Rattle.lists.specs.Answer.{Answer, refused, given, unless, and_then, map_answer}
 use Rattle.lists.specs.Lists.{put, elems, joined, part, Below}
 use Rattle.lists.proofs.Answers.{passed, passed_then}
 use Rattle.lists.proofs.Counts.{below_occurring}
 use Rattle.lists.proofs.Fills.{put_more, elems_length}
 use Rattle.lists.proofs.Parts.{part_lent}
-use Rattle.lists.proofs.Places.{gather_all}
+use Rattle.lists.proofs.Places.{below_at, gather_all}
 use Rattle.openrdson_core.specs.Bounds.{the_bbox}
-use Rattle.openrdson_core.specs.Mesh.{Mesh, the_mesh, the_counts, parallel, within, fits}
+use Rattle.openrdson_core.specs.Mesh.{Mesh, the_mesh, the_counts, parallel, parallel_lengths, within, fits}
 use Rattle.openrdson_core.specs.Points.{ring_fault, of_ring}
 use Rattle.openrdson_core.specs.Solids.{points_fault, heights_in, prism_fault}
 use Rattle.openrdson_core.specs.declared.mesh.Counts.{Counts}
+use Rattle.openrdson_core.specs.declared.refusals.Refusal.{Refusal}
 use Rattle.openrdson_core.specs.declared.solids.Solid.{Solid}
 use Rattle.openrdson_core.specs.declared.solids.Solid.TheVariants.{Box, Prism}
 use Rattle.openrdson_core.proofs.MeshLaws.{equal_lengths, room_for}
 use Rattle.openrdson_core.proofs.Rings.{fine_ring, parted}
-use Rattle.meshing.specs.declared.boxes.Meshed.{Meshed}
-use Rattle.meshing.specs.declared.boxes.Meshed.TheVariants.{Done}
 use Rattle.meshing.specs.declared.cells.MeshConfig.{MeshConfig}
 use Rattle.meshing.specs.Added.{Part, fit_part, Adds}
 use Rattle.meshing.specs.Boxes.{mesh_box}
@@ -37,9 +38,10 @@ use Rattle.meshing.specs.Scanline.{scanline_of, quads_part}
 use Rattle.meshing.specs.Prisms.{prism_places, triangles_part, ring_part, prism_part, mesh_prism, part_judged, prism_judged}
 use Rattle.meshing.specs.Regions.{mesh_region}
 use Rattle.meshing.proofs.BoxWrites.{same_mesh, same_adds}
+use Rattle.meshing.proofs.Chunks.{chunk_at}
 use Rattle.meshing.proofs.Demand.{triangles_triangulation}
 use Rattle.meshing.proofs.RingLaws.{kept_below, kept_most}
-use Rattle.meshing.proofs.TriangulateLaws.{corners_length, gathered_ring, gathered_start}
+use Rattle.meshing.proofs.TriangulateLaws.{corners_length}
 use Rattle.meshing.proofs.Written.{triple_at}
 
 -- ---- the prisms on triangles
@@ -51,8 +53,21 @@ prism_length base n (tri a b c) = refl
 abbrev pub prism_at : ℕ → ℕ → List ℕ → ℕ → List ℕ
 prism_at base n l k = prism_places base n (get_or (triples l) k (tri 0 0 0))
 
-pub prism_is : (base n : ℕ) (l : List ℕ) (i k : ℕ) → i ≡ k * 3 → i + 2 < length l → prism_places base n (tri (get_or l i 0) (get_or l (i + 1) 0) (get_or l (i + 2) 0)) ≡ prism_at base n l k
+prism_is : (base n : ℕ) (l : List ℕ) (i k : ℕ) → i ≡ k * 3 → i + 2 < length l → prism_places base n (tri (get_or l i 0) (get_or l (i + 1) 0) (get_or l (i + 2) 0)) ≡ prism_at base n l k
 prism_is base n l i k e h = ap (prism_places base n) (sym (triple_at l i k e h))
+
+-- The same of the corners read three at a time: their triangle k.
+module _ (l : List ℕ) {triangles : List (List ℕ)} (are : triangles ≡ first_chunks 3 (length l / 3) l) (k : ℕ) (h : k < length l / 3) where
+  corner : (j : ℕ) → j < 3 → get_or (get_or triangles k []) j 0 ≡ get_or l (k * 3 + j) 0
+  corner j g = ap (λ (ts : List (List ℕ)). get_or (get_or ts k []) j 0) are ∙ chunk_at 3 (length l / 3) l k j h g
+
+  pub corner_below : (n j : ℕ) → Below n l → j < 3 → get_or (get_or triangles k []) j 0 < n
+  corner_below n j b g = omega (arith, corner j g, below_at n l (k * 3 + j) b (omega arith))
+
+  pub prism_of : (base n : ℕ) → prism_places base n (tri (get_or (get_or triangles k []) 0 0) (get_or (get_or triangles k []) 1 0) (get_or (get_or triangles k []) 2 0)) ≡ prism_at base n l k
+  prism_of base n =
+      let first : k * 3 + 0 ≡ k * 3 = omega arith in
+      rw (corner 0 (omega arith), corner 1 (omega arith), corner 2 (omega arith), first) (prism_is base n l (k * 3) k refl (omega arith))
 
 -- how many triangles a list of corners has that holds nothing else
 pub triples_many : (l : List ℕ) → corners (triples l) ≡ l → length l ≡ length (triples l) * 3
@@ -60,21 +75,22 @@ triples_many l e = ap length (sym e) ∙ corners_length (triples l)
 
 -- ---- room in a mesh's lists for so many nodes and elements
 
-pub record Room (c : Counts) (m : Mesh) (nodes elements : ℕ) : Type 0 where
+pub record Room (c : Counts) (nodes elements xs ys zs kinds places regions : ℕ) : Type 0 where
   pub nodes_most : c.nodes + nodes ≤ 1048576
   pub elements_most : c.elements + elements ≤ 1048576
-  pub in_xs : c.nodes + nodes ≤ length m.xs
-  pub in_ys : c.nodes + nodes ≤ length m.ys
-  pub in_zs : c.nodes + nodes ≤ length m.zs
-  pub in_kinds : c.elements + elements ≤ length m.kinds
-  pub in_places : 8 * c.elements + 8 * elements ≤ length m.places
-  pub in_regions : c.elements + elements ≤ length m.regions
+  pub in_xs : c.nodes + nodes ≤ xs
+  pub in_ys : c.nodes + nodes ≤ ys
+  pub in_zs : c.nodes + nodes ≤ zs
+  pub in_kinds : c.elements + elements ≤ kinds
+  pub in_places : 8 * c.elements + 8 * elements ≤ places
+  pub in_regions : c.elements + elements ≤ regions
 
-pub room_in : (c : Counts) (m : Mesh) (nodes elements : ℕ) → parallel m ≡ true → fits nodes c.nodes (length m.xs) ≡ true → fits elements c.elements (length m.kinds) ≡ true → Room c m nodes elements
-room_in c m nodes elements p f g =
-    let lists = equal_lengths _ _ _ _ _ _ p in
-    let n = room_for nodes c.nodes (length m.xs) f in
-    let e = room_for elements c.elements (length m.kinds) g in
+pub room_in : (c : Counts) (nodes elements xs ys zs kinds places regions : ℕ) → parallel_lengths xs ys zs kinds places regions ≡ true → fits nodes c.nodes xs ≡ true → fits elements c.elements kinds ≡ true
+    → Room c nodes elements xs ys zs kinds places regions
+room_in c nodes elements xs ys zs kinds places regions p f g =
+    let lists = equal_lengths xs ys zs kinds places regions p in
+    let n = room_for nodes c.nodes xs f in
+    let e = room_for elements c.elements kinds g in
     record {
       nodes_most = n.0;
       elements_most = e.0;
@@ -121,10 +137,7 @@ module _ (c : Counts) (m : Mesh) (z0 z1 : Float) (xs ys : List Float) (l : List 
       unfolding fit_part
       tris_fit h = rw (tris_nodes, ← e, f, tris_elements, ← g, h)
 
-      pub tris_room : parallel m ≡ true → elements ≡ true → Room c m (length xs + length xs) (length l / 3)
-      tris_room p h = room_in c m (length xs + length xs) (length l / 3) p (sym e ∙ f) (sym g ∙ h)
-
-  module _ (region : ℕ) (even : length ys ≡ length xs) (room : Room c m (length xs + length xs) (length l / 3)) where
+  module _ (region : ℕ) (even : length ys ≡ length xs) (room : Room c (length xs + length xs) (length l / 3) (length m.xs) (length m.ys) (length m.zs) (length m.kinds) (length m.places) (length m.regions)) where
     abbrev n : ℕ
     n = length xs
 
@@ -141,7 +154,7 @@ module _ (c : Counts) (m : Mesh) (z0 z1 : Float) (xs ys : List Float) (l : List 
         → kinds ≡ put m.kinds c.elements (elems (length l / 3) (λ _. 2))
         → places ≡ put m.places (8 * c.elements) (joined (prism_places c.nodes n) (triples l))
         → regions ≡ put m.regions c.elements (elems (length l / 3) (λ _. region))
-        → Adds (given tris) c region m (the_mesh xs2 ys2 zs2 kinds places regions) (Done (the_counts (c.nodes + n + n) (c.elements + length l / 3)))
+        → Adds (given tris) c region m (the_mesh xs2 ys2 zs2 kinds places regions) (Ok (the_counts (c.nodes + n + n) (c.elements + length l / 3)))
     unfolding triangles_part
     tris_adds p1 p2 q1 q2 r1 r2 s t u =
         record {
@@ -187,14 +200,7 @@ module _ (xs ys : List Float) where
     pub clean_ys : length xs ≡ length ys → ys ≡ gathered ys (kept xs ys)
     clean_ys e = sym (ap (gathered ys) clean ∙ gather_all nan ys (length xs) e)
 
-  -- what was gathered at the places kept stands over the start of a list
-  pub kept_start : (places : List ℕ) (n : ℕ) (l old new : List Float) → take n places ≡ kept xs ys → length (take n places) ≡ n → new ≡ put old 0 (gathered l (take n places)) → take n new ≡ gathered l (kept xs ys)
-  kept_start places n l old new is long e = gathered_start l old new (take n places) n e (sym long) ∙ ap (gathered l) is
-
   module _ {rx ry : List Float} (e : rx ≡ gathered xs (kept xs ys)) (f : ry ≡ gathered ys (kept xs ys)) where
-    pub kept_ring : ring_fault xs ys ≡ given tt → ring_fault rx ry ≡ given tt
-    kept_ring g = rw (e, f) (gathered_ring xs ys (kept xs ys) g (kept_below xs ys) (omega (arith, kept_most xs ys, (fine_ring xs ys g).short)))
-
     module _ (base : ℕ) (z0 z1 : Float) where
       pub prism_ring : ring_part base z0 z1 rx ry ≡ prism_part base z0 z1 xs ys
       unfolding prism_part
@@ -215,7 +221,7 @@ module _ (xs ys : List Float) where
   ring_scanned base z0 z1 e = rw e
 
 -- what is added where there is room depends on the part alone
-pub part_adds : {a b : Answer Part} {c : Counts} {region : ℕ} {m m' : Mesh} {r : Meshed} → a ≡ b → Adds (and_then b (fit_part c m)) c region m m' r → Adds (and_then a (fit_part c m)) c region m m' r
+pub part_adds : {a b : Answer Part} {c : Counts} {region : ℕ} {m m' : Mesh} {r : Result Counts Refusal} → a ≡ b → Adds (and_then b (fit_part c m)) c region m m' r → Adds (and_then a (fit_part c m)) c region m m' r
 part_adds {c = c} {m = m} e = same_adds (ap (λ (a : Answer Part). and_then a (fit_part c m)) (sym e))
 
 -- ---- the refusals, in order
@@ -223,41 +229,6 @@ part_adds {c = c} {m = m} e = same_adds (ap (λ (a : Answer Part). and_then a (f
 -- a part that a program lends as two slices
 pub lent_ring : (px py : List Float) (start count : ℕ) → ring_fault (take (start + count - start) (drop start px)) (take (start + count - start) (drop start py)) ≡ ring_fault (part start count px) (part start count py)
 lent_ring px py start count = rw (part_lent px start count, part_lent py start count)
-
--- of a part of point lists that are equally long, and two heights
-module _ (px py : List Float) (z0 z1 : Float) (start count : ℕ) (even : length px ≡ length py) where
-  abbrev judged : Answer (Unit {0})
-  judged = part_judged px py z0 z1 start count
-
-  pub part_outside : length px < start + count → judged ≡ refused 15
-  unfolding part_judged
-  part_outside h = rw (eq-eqb (length px) (length py) even, lt-leb (start + count) (length px) h)
-
-  module _ (inside : start + count ≤ length px) where
-    pub part_long : 2097152 < length px → judged ≡ refused 2
-    unfolding part_judged
-    part_long h = rw (eq-eqb (length px) (length py) even, le-leb (start + count) (length px) inside, lt-leb (length px) 2097152 h)
-
-    module _ (short : length px ≤ 2097152) where
-      points_fine : points_fault (length px) (length py) start count ≡ given tt
-      points_fine = rw (eq-eqb (length px) (length py) even, le-leb (start + count) (length px) inside, le-leb (length px) 2097152 short)
-
-      pub part_refused : {n : ℕ} → refused n ≡ ring_fault (part start count px) (part start count py) → judged ≡ refused n
-      unfolding part_judged
-      part_refused e = rw (points_fine, ← e)
-
-      module _ (fine : given tt ≡ ring_fault (part start count px) (part start count py)) where
-        pub part_heights : heights_in z0 z1 ≡ false → judged ≡ refused 1
-        unfolding part_judged
-        part_heights h = rw (points_fine, ← fine, h)
-
-        pub part_flat : heights_in z0 z1 ≡ true → lt z0 z1 ≡ false → judged ≡ refused 8
-        unfolding part_judged
-        part_flat h e = rw (points_fine, ← fine, h, e)
-
-        pub part_fine : heights_in z0 z1 ≡ true → lt z0 z1 ≡ true → judged ≡ given tt
-        unfolding part_judged
-        part_fine h e = rw (points_fine, ← fine, h, e)
 
 -- four rows, what is against the part, and one more row, before what is decided next
 rows : {A : Type 0} (p q r s : Bool) (i j k l : ℕ) (fault : Answer (Unit {0})) (t : Bool) (n : ℕ) (rest : Answer A)

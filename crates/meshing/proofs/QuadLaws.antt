@@ -2,22 +2,25 @@
 use mathlib.Core.Path.{◌≡◌, refl, sym, ap, ◌∙◌}
 use mathlib.Core.Bool.{Bool, true, false, cond, ◌&&◌, and-true, and_assoc}
 use mathlib.Core.List.{List, [], ◌∷◌, ◌++◌, append_assoc, append-nil}
-use Prim.Native.Nat.{ℕ, zero, suc, ◌+◌, ◌*◌, ◌<◌, ◌≤◌}
+use Prim.Native.Nat.{ℕ, zero, suc, ◌+◌, ◌*◌, ◌/◌, ◌<◌, ◌≤◌}
 use native.Mathlib.Nat.{le_of_suc-le-suc}
 use native.Mathlib.Numerals.{add-one, add-two}
 use native.Mathlib.Omega.{arith}
 use lib.ListN.{length, get_or, drop, length-append}
 use lib.Seq.{drop-cons}
 use lib.Ieee.{Float}
-use Rattle.lists.specs.Lists.{put, joined, all_of}
+use Rattle.std.specs.Simd.{first_chunks}
+use Rattle.lists.specs.Lists.{put, joined, all_of, Below}
 use Rattle.lists.proofs.Fills.{put_none, put_length}
 use Rattle.lists.proofs.Joined.{joined_lengths, joined_length, joined_one, put_joined}
 use Rattle.lists.proofs.Passing.{all_of_append}
+use Rattle.lists.proofs.Places.{below_at}
 use Rattle.meshing.specs.declared.quads.Quad.{Quad}
 use Rattle.meshing.specs.declared.quads.Tally.{Tally}
 use Rattle.meshing.specs.Levels.{Band}
 use Rattle.meshing.specs.Quads.{is_flat, quad_in, quad_of, quads_between}
 use Rattle.meshing.specs.Scanline.{quad_xs, quad_ys, Tallied}
+use Rattle.meshing.proofs.Chunks.{chunk_at}
 
 -- ---- the pair of edges at places i and i + 1: its quad is skipped, or is the next; or there is no such pair
 
@@ -30,11 +33,11 @@ module _ (xs ys : List Float) (b : Band) (es : List ℕ) (i : ℕ) where
       let first : i < length es = omega arith in
       rw (← g, e, add-one i, add-two i, drop-cons es i 0 first, drop-cons es (suc i) 0 second)
 
-  pub pair_flat : i + 1 < length es → {q : Quad} → q ≡ quad_of xs ys b (get_or es i 0) (get_or es (i + 1) 0) → is_flat q ≡ true
+  pair_flat : i + 1 < length es → {q : Quad} → q ≡ quad_of xs ys b (get_or es i 0) (get_or es (i + 1) 0) → is_flat q ≡ true
       → quads_between xs ys b (drop i es) ≡ quads_between xs ys b (drop (i + 2) es)
   pair_flat h e g = pair h e g
 
-  pub pair_kept : i + 1 < length es → {q : Quad} → q ≡ quad_of xs ys b (get_or es i 0) (get_or es (i + 1) 0) → is_flat q ≡ false
+  pair_kept : i + 1 < length es → {q : Quad} → q ≡ quad_of xs ys b (get_or es i 0) (get_or es (i + 1) 0) → is_flat q ≡ false
       → quads_between xs ys b (drop i es) ≡ (q ∷ []) ++ quads_between xs ys b (drop (i + 2) es)
   pair_kept h e g = pair h e g
 
@@ -48,6 +51,30 @@ module _ (xs ys : List Float) (b : Band) (es : List ℕ) (i : ℕ) where
       go (x ∷ []) zero h = refl
       go (x ∷ (y ∷ l)) zero h = absurd (omega arith)
       go (x ∷ l) (suc j) h = go l j (le_of_suc-le-suc h)
+
+-- The same of the edges read two at a time: their pair i.
+module _ (n : ℕ) (es : List ℕ) {pairs : List (List ℕ)} (are : pairs ≡ first_chunks 2 (length es / 2) es) (i : ℕ) (h : i < length es / 2) where
+  first_is : get_or (get_or pairs i []) 0 0 ≡ get_or es (i * 2) 0
+  first_is =
+      let e : i * 2 + 0 ≡ i * 2 = omega arith in
+      ap (λ (ps : List (List ℕ)). get_or (get_or ps i []) 0 0) are ∙ chunk_at 2 (length es / 2) es i 0 h (omega arith) ∙ ap (λ (k : ℕ). get_or es k 0) e
+
+  second_is : get_or (get_or pairs i []) 1 0 ≡ get_or es (i * 2 + 1) 0
+  second_is = ap (λ (ps : List (List ℕ)). get_or (get_or ps i []) 1 0) are ∙ chunk_at 2 (length es / 2) es i 1 h (omega arith)
+
+  -- both are below n if all edges are
+  pub pair_below : Below n es → (get_or (get_or pairs i []) 0 0 < n) × (get_or (get_or pairs i []) 1 0 < n)
+  pair_below b = (omega (arith, first_is, below_at n es (i * 2) b (omega arith)), omega (arith, second_is, below_at n es (i * 2 + 1) b (omega arith)))
+
+  module _ (xs ys : List Float) (b : Band) {q : Quad} (is : q ≡ quad_of xs ys b (get_or (get_or pairs i []) 0 0) (get_or (get_or pairs i []) 1 0)) where
+    next : i * 2 + 2 ≡ (i + 1) * 2
+    next = omega arith
+
+    pub chunk_flat : is_flat q ≡ true → quads_between xs ys b (drop (i * 2) es) ≡ quads_between xs ys b (drop ((i + 1) * 2) es)
+    chunk_flat f = pair_flat xs ys b es (i * 2) (omega arith) (rw (← first_is, ← second_is) is) f ∙ ap (λ (k : ℕ). quads_between xs ys b (drop k es)) next
+
+    pub chunk_kept : is_flat q ≡ false → quads_between xs ys b (drop (i * 2) es) ≡ (q ∷ []) ++ quads_between xs ys b (drop ((i + 1) * 2) es)
+    chunk_kept f = pair_kept xs ys b es (i * 2) (omega arith) (rw (← first_is, ← second_is) is) f ∙ ap (λ (k : ℕ). (q ∷ []) ++ quads_between xs ys b (drop k es)) next
 
 -- there are no more of them than edges
 pub pairs_most : (xs ys : List Float) (b : Band) (es : List ℕ) → length (quads_between xs ys b es) ≤ length es

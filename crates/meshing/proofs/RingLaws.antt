@@ -8,17 +8,18 @@ use native.Mathlib.Omega.{arith}
 use lib.Dec.{ltb}
 use lib.ListN.{length, get_or, take, set, length-append, length-set, get_or-append}
 use lib.Seq.{length-take-le, take-take, take-suc-set, get_or-append-add}
-use lib.Ieee.{Float}
+use lib.Ieee.{Float, nan}
+use Rattle.std.specs.Prelude.{Result}
 use borrow.Author.Tests.{lt-ltb, le-ltb, le-leb, lt-leb, eq-eqb, ne_eqb}
 use Rattle.lists.specs.Answer.{refused, given}
 use Rattle.lists.specs.Lists.{fold_below, put, runs, elems, Below}
-use Rattle.lists.proofs.Fills.{elems_length, elems_suc, elems_at}
-use Rattle.lists.proofs.Places.{below_more, below_take}
+use Rattle.lists.proofs.Fills.{elems_length, elems_suc, elems_at, put_start}
+use Rattle.lists.proofs.Places.{below_more, below_take, gather_length}
 use Rattle.openrdson_core.specs.Points.{point_at, ring_fault}
+use Rattle.openrdson_core.specs.Answers.{answer}
 use Rattle.openrdson_core.specs.declared.points.Point.{Point}
-use Rattle.meshing.specs.Answers.{cleaned_answer}
+use Rattle.openrdson_core.specs.declared.refusals.Refusal.{Refusal}
 use Rattle.meshing.specs.Ring.{is_close, last_of, keep, drop_last, kept, dedup_ring, gathered, KeptIn, CleanedAs}
-use Rattle.meshing.specs.declared.ring.Cleaned.{Cleaned}
 
 -- the last of a list with one more
 last_more : (ks : List ℕ) (i : ℕ) → last_of (ks ++ i ∷ []) ≡ i
@@ -263,6 +264,11 @@ module _ (xs ys : List Float) where
         within = omega (arith, k.few);
       }
 
+  -- what was gathered at the places kept stands over the start of a list
+  pub kept_start : (places : List ℕ) (n : ℕ) (l old new : List Float) → n ≤ length places → take n places ≡ kept xs ys → new ≡ put old 0 (gathered l (take n places)) → take n new ≡ gathered l (kept xs ys)
+  kept_start places n l old new inside is e =
+      put_start old (gathered l (take n places)) e (sym (length-take-le n places inside) ∙ sym (gather_length nan l (take n places))) ∙ ap (gathered l) is
+
   -- ---- the call
 
   module _ (m n : ℕ) where
@@ -288,12 +294,12 @@ module _ (xs ys : List Float) where
 
 -- ---- the call's contract
 
-module _ (xs ys ox oy : List Float) (r : Cleaned) where
+module _ (xs ys ox oy : List Float) (r : Result ℕ Refusal) where
   -- nothing is written where it is refused
-  pub cleaned_refused : (w : ℕ) → cleaned_answer r ≡ refused w → dedup_ring xs ys (length ox) (length oy) ≡ refused w → CleanedAs xs ys ox oy r ox oy
+  pub cleaned_refused : (w : ℕ) → answer r ≡ refused w → dedup_ring xs ys (length ox) (length oy) ≡ refused w → CleanedAs xs ys ox oy r ox oy
   cleaned_refused w e d = record { answer = rw d e; writes_x = rw d; writes_y = rw d }
 
   -- else the coordinates at the places ks
-  pub cleaned_given : (ks : List ℕ) (ox' oy' : List Float) → cleaned_answer r ≡ given (length ks) → dedup_ring xs ys (length ox) (length oy) ≡ given ks
+  pub cleaned_given : (ks : List ℕ) (ox' oy' : List Float) → answer r ≡ given (length ks) → dedup_ring xs ys (length ox) (length oy) ≡ given ks
       → ox' ≡ put ox 0 (gathered xs ks) → oy' ≡ put oy 0 (gathered ys ks) → CleanedAs xs ys ox oy r ox' oy'
   cleaned_given ks ox' oy' e d x y = record { answer = rw d e; writes_x = rw d x; writes_y = rw d y }

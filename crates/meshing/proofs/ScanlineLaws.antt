@@ -9,6 +9,7 @@ use lib.Dec.{leb}
 use lib.ListN.{length, take, drop, drop_of_length-le}
 use lib.Seq.{drop-cons}
 use lib.Ieee.{Float, nan, inf}
+use Rattle.std.specs.Prelude.{Result, Ok, Option, Some, None, IsSome}
 use borrow.Author.Tests.{le-leb, lt-leb}
 use Rattle.lists.specs.Answer.{Answer, refused, given, and_then, map_answer}
 use Rattle.lists.specs.Counts.{tally, SameEntries}
@@ -22,17 +23,14 @@ use Rattle.binary64.specs.Numbers.{at}
 use Rattle.openrdson_core.specs.Points.{ring_fault}
 use Rattle.openrdson_core.specs.Mesh.{Mesh, the_mesh, the_counts, unused, kind_number, parallel_lengths, fits}
 use Rattle.openrdson_core.specs.declared.mesh.Counts.{Counts}
+use Rattle.openrdson_core.specs.declared.refusals.Refusal.{Refusal}
+use Rattle.openrdson_core.specs.Answers.{answer}
 use Rattle.openrdson_core.specs.declared.mesh.ElementType.TheVariants.{Prism}
 use Rattle.openrdson_core.proofs.Rings.{fine_ring}
 use Rattle.openrdson_core.proofs.MeshLaws.{equal_lengths, room_for}
-use Rattle.meshing.specs.declared.boxes.Meshed.{Meshed}
-use Rattle.meshing.specs.declared.boxes.Meshed.TheVariants as meshed
-use Rattle.meshing.specs.declared.crossings.Crossed.TheVariants as crossed
 use Rattle.meshing.specs.declared.quads.Quad.{Quad}
 use Rattle.meshing.specs.declared.quads.Tally.{Tally}
-use Rattle.meshing.specs.declared.scanline.Bands.{Bands}
-use Rattle.meshing.specs.declared.scanline.Bands.TheVariants as bands
-use Rattle.meshing.specs.Added.{Part, meshed_answer, Adds, fit_part}
+use Rattle.meshing.specs.Added.{Part, Adds, fit_part}
 use Rattle.meshing.specs.Levels.{Band, the_band, levels, bands_from, bands_of, middle}
 use Rattle.meshing.specs.Crossings.{spanning, left_of, crossings, crosses_in, CrossedAs}
 use Rattle.meshing.specs.Quads.{quad_in, quads_between, band_quads, quads_of}
@@ -65,15 +63,15 @@ bands_last levels k h = ap (bands_from (at levels k)) (drop_of_length-le levels 
 
 module _ (xs ys : List Float) (b : Band) {y : Float} (mid : y ≡ middle b) (edges : List ℕ) where
   -- its quads, from the edges that `cross` gives
-  quads_are : (m : ℕ) → CrossedAs xs ys y (crossed.Edges m) edges → quads_between xs ys b (take m edges) ≡ band_quads xs ys b
+  quads_are : (m : ℕ) → CrossedAs xs ys y (Some m) edges → quads_between xs ys b (take m edges) ≡ band_quads xs ys b
   unfolding band_quads
   quads_are m c = ap (quads_between xs ys b) (c.1 ∙ ap (crossings xs ys) mid)
 
-  band_fine : (m : ℕ) → CrossedAs xs ys y (crossed.Edges m) edges → band_in xs ys b ≡ true
+  band_fine : (m : ℕ) → CrossedAs xs ys y (Some m) edges → band_in xs ys b ≡ true
   unfolding band_in
   band_fine m c = subst (λ (z : Float). all_of (crosses_in xs ys z) (crossings xs ys z) ≡ true) mid c.0
 
-  band_out : CrossedAs xs ys y crossed.Outside edges → band_in xs ys b ≡ false
+  band_out : CrossedAs xs ys y None edges → band_in xs ys b ≡ false
   unfolding band_in
   band_out c = subst (λ (z : Float). all_of (crosses_in xs ys z) (crossings xs ys z) ≡ false) mid c
 
@@ -89,11 +87,11 @@ hand_start xs ys edges checked e =
       few = omega arith;
     }
 
-pub hand_next : (xs ys : List Float) (y : Float) (m : ℕ) (edges : List ℕ) → CrossedAs xs ys y (crossed.Edges m) edges → InHand ys y m edges
+pub hand_next : (xs ys : List Float) (y : Float) (m : ℕ) (edges : List ℕ) → CrossedAs xs ys y (Some m) edges → InHand ys y m edges
 hand_next xs ys y m edges c = record { are = λ test. ap (tally test) c.1 ∙ crossings_entries xs ys y test; few = c.2 }
 
 -- what is lent of them
-pub hand_below : (xs ys : List Float) (y : Float) (m : ℕ) (edges : List ℕ) → CrossedAs xs ys y (crossed.Edges m) edges → length ys ≡ length xs → Below (length xs) (take m edges)
+pub hand_below : (xs ys : List Float) (y : Float) (m : ℕ) (edges : List ℕ) → CrossedAs xs ys y (Some m) edges → length ys ≡ length xs → Below (length xs) (take m edges)
 hand_below xs ys y m edges c e = spanning_below xs ys y (take m edges) (hand_next xs ys y m edges c).are (length xs) e
 
 -- ---- the pass that decides
@@ -118,7 +116,7 @@ module _ (xs ys levels : List Float) where
 
   module _ {k : ℕ} {t : Tally} (s : Tallying xs ys levels k t) where
     module _ (h : k + 1 < length levels) {y : Float} (mid : y ≡ middle (band_at levels k)) (edges : List ℕ) where
-      pub tallying_turn : {m : ℕ} {r : Tally} → CrossedAs xs ys y (crossed.Edges m) edges → length ys ≤ 512
+      pub tallying_turn : {m : ℕ} {r : Tally} → CrossedAs xs ys y (Some m) edges → length ys ≤ 512
           → Tallied t (quads_between xs ys (band_at levels k) (take m edges)) r → r.quads ≤ t.quads + m → Tallying xs ys levels (k + 1) r
       tallying_turn {m} c short is most =
           record {
@@ -127,11 +125,11 @@ module _ (xs ys levels : List Float) where
             few = omega (arith, s.few, most, c.2, short);
           }
 
-      pub tallying_out : CrossedAs xs ys y crossed.Outside edges → BandsAs xs ys (bands_of levels) bands.Outside
+      pub tallying_out : CrossedAs xs ys y None edges → BandsAs xs ys (bands_of levels) None
       tallying_out c =
           s.in_range ∙ ap (bands_in xs ys) (bands_next levels k h) ∙ ap (λ (p : Bool). p && bands_in xs ys (bands_at levels (k + 1))) (band_out xs ys (band_at levels k) mid edges c)
 
-    pub tallying_end : length levels ≤ k + 1 → BandsAs xs ys (bands_of levels) (bands.Quads t)
+    pub tallying_end : length levels ≤ k + 1 → BandsAs xs ys (bands_of levels) (Some t)
     tallying_end h =
         let all = count_end s.counted (ap (joined (band_quads xs ys)) (bands_last levels k h)) in
         (s.in_range ∙ ap (bands_in xs ys) (bands_last levels k h), omega (arith, all.quads), all.inside)
@@ -160,10 +158,11 @@ module _ (xs ys levels : List Float) where
       rest = ap (joined (band_quads xs ys)) (bands_next levels k h)
 
       -- no crossing is out of range
-      pub writing_never : {X : Type 0} → CrossedAs xs ys y crossed.Outside edges → X
-      writing_never c = absurd (false≢true (sym (band_out xs ys (band_at levels k) mid edges c) ∙ here.0))
+      pub writing_some : (r : Option ℕ) → CrossedAs xs ys y r edges → IsSome r
+      writing_some (Some m) c = refl
+      writing_some None c = absurd (false≢true (sym (band_out xs ys (band_at levels k) mid edges c) ∙ here.0))
 
-      module _ {m : ℕ} (c : CrossedAs xs ys y (crossed.Edges m) edges) (room : p + length (joined quad_xs (joined (band_quads xs ys) (bands_of levels))) ≤ length nx₀) where
+      module _ {m : ℕ} (c : CrossedAs xs ys y (Some m) edges) (room : p + length (joined quad_xs (joined (band_quads xs ys) (bands_of levels))) ≤ length nx₀) where
         pub writing_room : place + length (joined quad_xs (quads_between xs ys (band_at levels k) (take m edges))) ≤ length nx₀
         writing_room = rw (quads_are xs ys (band_at levels k) mid edges m c) (sofar_room s.wrote (band_quads xs ys (band_at levels k)) (joined (band_quads xs ys) (bands_at levels (k + 1))) rest room)
 
@@ -201,26 +200,26 @@ module _ (xs ys : List Float) where
     even : all_of (even_band xs ys) (bands_of (levels ys)) ≡ true
     even = bands_even xs ys (bands_of (levels ys))
 
-    module _ (two : 2 ≤ length l) (r : Bands) (found : BandsAs xs ys (bands_of l) r) where
-      seen : (r' : Bands) → r ≡ r' → BandsAs xs ys (bands_of (levels ys)) r'
+    module _ (two : 2 ≤ length l) (r : Option Tally) (found : BandsAs xs ys (bands_of l) r) where
+      seen : (r' : Option Tally) → r ≡ r' → BandsAs xs ys (bands_of (levels ys)) r'
       seen r' e = subst (λ (k : List Float). BandsAs xs ys (bands_of k) r') is (subst (BandsAs xs ys (bands_of l)) e found)
 
-      pub crossing_out : r ≡ bands.Outside → refused 1 ≡ map_answer length (scanline_of xs ys)
+      pub crossing_out : r ≡ None → refused 1 ≡ map_answer length (scanline_of xs ys)
       unfolding scanline_of
-      crossing_out e = rw (le-leb 3 (length xs) three, enough two, even, seen bands.Outside e)
+      crossing_out e = rw (le-leb 3 (length xs) three, enough two, even, seen None e)
 
-      module _ {t : Tally} (e : r ≡ bands.Quads t) where
+      module _ {t : Tally} (e : r ≡ Some t) where
         count : t.quads ≡ length (quads_of xs ys)
         unfolding quads_of
-        count = (seen (bands.Quads t) e).1
+        count = (seen (Some t) e).1
 
         inside : t.inside ≡ all_of quad_in (quads_of xs ys)
         unfolding quads_of
-        inside = (seen (bands.Quads t) e).2
+        inside = (seen (Some t) e).2
 
         pub none_out : t.quads ≡ 0 → refused 11 ≡ map_answer length (scanline_of xs ys)
         unfolding scanline_of
-        none_out h = rw (le-leb 3 (length xs) three, enough two, even, (seen (bands.Quads t) e).0, lt-leb 1 (length (quads_of xs ys)) (omega (arith, count)))
+        none_out h = rw (le-leb 3 (length xs) three, enough two, even, (seen (Some t) e).0, lt-leb 1 (length (quads_of xs ys)) (omega (arith, count)))
 
         module _ (some : t.quads ≡ 0 → ⊥) where
           one : leb 1 (length (quads_of xs ys)) ≡ true
@@ -228,11 +227,11 @@ module _ (xs ys : List Float) where
 
           pub node_out : t.inside ≡ false → refused 1 ≡ map_answer length (scanline_of xs ys)
           unfolding scanline_of
-          node_out h = rw (le-leb 3 (length xs) three, enough two, even, (seen (bands.Quads t) e).0, one, sym inside ∙ h)
+          node_out h = rw (le-leb 3 (length xs) three, enough two, even, (seen (Some t) e).0, one, sym inside ∙ h)
 
           pub scan_done : t.inside ≡ true → given t.quads ≡ map_answer length (scanline_of xs ys)
           unfolding scanline_of
-          scan_done h = rw (le-leb 3 (length xs) three, enough two, even, (seen (bands.Quads t) e).0, one, sym inside ∙ h, count)
+          scan_done h = rw (le-leb 3 (length xs) three, enough two, even, (seen (Some t) e).0, one, sym inside ∙ h, count)
 
 -- ---- what is written
 
@@ -360,7 +359,7 @@ module _ (xs ys : List Float) (z0 z1 : Float) (c : Counts) (region : ℕ) (m : M
   scanline_part = and_then (map_answer (quads_part c.nodes z0 z1) (scanline_of xs ys)) (fit_part c m)
 
   -- the scanline's refusal
-  pub scan_adds : {r : Meshed} {k : ℕ} → refused k ≡ map_answer length (scanline_of xs ys) → meshed_answer r ≡ refused k → Adds scanline_part c region m m r
+  pub scan_adds : {r : Result Counts Refusal} {k : ℕ} → refused k ≡ map_answer length (scanline_of xs ys) → answer r ≡ refused k → Adds scanline_part c region m m r
   scan_adds e f = refused_adds scanline_part (ap (λ (a : Answer (List Quad)). and_then (map_answer (quads_part c.nodes z0 z1) a) (fit_part c m)) (scan_refused xs ys e)) f
 
   module _ {n : ℕ} (d : Decided xs ys n) where
@@ -396,7 +395,7 @@ module _ (xs ys : List Float) (z0 z1 : Float) (c : Counts) (region : ℕ) (m : M
         → kinds ≡ put m.kinds c.elements (elems (2 * n) (λ _. kind_number Prism))
         → places ≡ put m.places (8 * c.elements) (runs n (λ i. quad_places (c.nodes + i * 8)))
         → regions ≡ put m.regions c.elements (elems (2 * n) (λ _. region))
-        → Adds scanline_part c region m (the_mesh nx ny nz kinds places regions) (meshed.Done (the_counts (c.nodes + 8 * n) (c.elements + 2 * n)))
+        → Adds scanline_part c region m (the_mesh nx ny nz kinds places regions) (Ok (the_counts (c.nodes + 8 * n) (c.elements + 2 * n)))
     unfolding fit_part quads_part
     quads_add e f is p q r s t u =
         same_adds {a = given part} (sym (fitted ∙ rw (nodes, e, elements, f)))

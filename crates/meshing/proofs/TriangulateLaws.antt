@@ -1,33 +1,34 @@
 -- Triangulating: the cleaned ring is a ring, each refusal, and demand 3 of what is written. Assumes nothing.
 use mathlib.Core.Path.{◌≡◌, refl, sym, ap, subst, ◌∙◌}
-use mathlib.Core.Bool.{true, not}
+use mathlib.Core.Bool.{Bool, true, false, not}
 use mathlib.Core.List.{List, [], ◌∷◌}
 use Prim.Native.Nat.{ℕ, zero, suc, ◌*◌, ◌≤◌, ◌<◌}
 use native.Mathlib.Omega.{arith}
 use lib.Dec.{eqb, leb}
 use lib.ListN.{length, get_or, take}
 use lib.Ieee.{Float, nan, lt}
+use Rattle.std.specs.Prelude.{Result, Ok, Err}
 use borrow.Author.Tests.{le-leb, lt-leb, eq-eqb, ne_eqb}
-use Rattle.lists.specs.Answer.{Answer, refused, given, unless, map_answer}
-use Rattle.lists.specs.Lists.{put, Below}
+use Rattle.lists.specs.Answer.{Answer, refused, given, unless, map_answer, left}
+use Rattle.lists.specs.Lists.{put, elems, Below}
 use Rattle.lists.proofs.Answers.{refused_given, passed, passed_then, given_same}
-use Rattle.lists.proofs.Fills.{put_start}
+use Rattle.lists.proofs.Fills.{put_start, elems_length}
 use Rattle.lists.proofs.Scans.{all_at, all_from}
-use Rattle.lists.proofs.Places.{gather_length, below_at}
+use Rattle.lists.proofs.Places.{gather_length, gather_all, below_at}
 use Rattle.binary64.specs.Constants.{zero64}
+use Rattle.openrdson_core.specs.Answers.{answer}
 use Rattle.openrdson_core.specs.Area.{signed_area}
+use Rattle.openrdson_core.specs.declared.refusals.Refusal.{Refusal}
 use Rattle.openrdson_core.specs.Points.{point_at, point_in, points_in, ring_size, ring_fault, of_ring}
 use Rattle.meshing.specs.Ring.{kept, gathered}
 use Rattle.meshing.specs.Triangles.{Triangle, tri, corners, triples, walk, Triangulation}
 use Rattle.meshing.specs.Clipping.{clip}
 use Rattle.meshing.specs.Ears.{is_ear, is_forward, triangles_of}
-use Rattle.meshing.specs.Answers.{cut_answer}
-use Rattle.meshing.specs.declared.ears.Cut.{Cut}
-use Rattle.meshing.specs.declared.ears.Cut.TheVariants.{Done, Stalled}
-use Rattle.meshing.specs.Triangulate.{Cutting, fitted, cutting, triangulate_polygon, triangulated_answer, Leaves, Demand3}
-use Rattle.meshing.specs.declared.triangulate.Triangulated.{Triangulated}
-use Rattle.meshing.specs.declared.triangulate.Triangulated.TheVariants.{Counts, Refused}
+use Rattle.meshing.specs.Triangulate.{Cutting, fitted, cutting, triangulate_polygon, numbers, Leaves, Demand3}
+use Rattle.meshing.specs.declared.triangulate.Triangulation.{Triangulation as Numbers}
 use Rattle.meshing.proofs.Written.{triples_corners}
+use Rattle.openrdson_core.proofs.Rings.{fine_ring}
+use Rattle.meshing.proofs.RingLaws.{kept_below, kept_most}
 use Rattle.meshing.proofs.Demand.{triangles_triangulation}
 
 -- ---- the points at places of a ring are a ring
@@ -53,6 +54,10 @@ module _ (xs ys : List Float) (ks : List ℕ) (e : ring_fault xs ys ≡ given tt
   unfolding ring_fault
   gathered_ring h =
       rw (gathered_points, gather_length nan xs ks, gather_length nan ys ks, eq-eqb (length ks) (length ks) refl, le-leb (length ks) 512 h)
+
+-- a ring cleaned is a ring
+pub kept_ring : (xs ys : List Float) {rx ry : List Float} → rx ≡ gathered xs (kept xs ys) → ry ≡ gathered ys (kept xs ys) → ring_fault xs ys ≡ given tt → ring_fault rx ry ≡ given tt
+kept_ring xs ys e f g = rw (e, f) (gathered_ring xs ys (kept xs ys) g (kept_below xs ys) (omega (arith, kept_most xs ys, (fine_ring xs ys g).short)))
 
 -- ---- refusals
 
@@ -103,13 +108,39 @@ module _ (m c : ℕ) (ks : List ℕ) (ts : List Triangle) where
 
 -- ---- what a refusal leaves, and an answer
 
-pub refused_leaves : {xs ys ox oy : List Float} {cs : List ℕ} {r : Triangulated} (a : Answer Cutting) {n : ℕ} → a ≡ refused n → triangulated_answer r ≡ refused n → Leaves a xs ys ox oy cs r ox oy cs
+pub refused_leaves : {xs ys ox oy : List Float} {cs : List ℕ} {r : Result Numbers Refusal} (a : Answer Cutting) {n : ℕ} → a ≡ refused n → answer r ≡ refused n → Leaves a xs ys ox oy cs r ox oy cs
 refused_leaves a e f = rw e (record { answer = f; writes_x = refl; writes_y = refl; writes_corners = refl })
 
 pub given_leaves : {xs ys ox oy : List Float} {cs : List ℕ} {ox' oy' : List Float} {cs' : List ℕ} (a : Answer Cutting) (ks : List ℕ) (ts : List Triangle) {v t : ℕ}
     → a ≡ given (record { ring = ks; triangles = ts }) → v ≡ length ks → t ≡ length ts → ox' ≡ put ox 0 (gathered xs ks) → oy' ≡ put oy 0 (gathered ys ks) → cs' ≡ put cs 0 (corners ts)
-    → Leaves a xs ys ox oy cs (Counts v t) ox' oy' cs'
-given_leaves a ks ts e f g x y z = rw e (record { answer = cc; writes_x = x; writes_y = y; writes_corners = z })
+    → Leaves a xs ys ox oy cs (Ok (record { vertices = v; triangles = t })) ox' oy' cs'
+given_leaves a ks ts e f g x y z = rw e (record { answer = rw (f, g); writes_x = x; writes_y = y; writes_corners = z })
+
+-- the same of the points at some places, gathered, and of those at all places of what was gathered
+fit_same : {B : Type 0} (F G : Cutting → B) (m c : ℕ) (is ks : List ℕ) (ts : List Triangle) → length is ≡ length ks
+    → F (record { ring = is; triangles = ts }) ≡ G (record { ring = ks; triangles = ts }) → map_answer F (fitted m c is ts) ≡ map_answer G (fitted m c ks ts)
+unfolding fitted
+fit_same F G m c is ks ts n e = rw n (at (leb (length ks) m) (leb (length (corners ts)) c))
+  where
+    at : (p q : Bool) → map_answer F (unless p 12 (unless q 12 (given (record { ring = is; triangles = ts })))) ≡ map_answer G (unless p 12 (unless q 12 (given (record { ring = ks; triangles = ts }))))
+    at true true = ap given e
+    at true false = refl
+    at false q = refl
+
+pub leaves_gathered : (xs ys : List Float) {rx ry ox oy : List Float} {cs : List ℕ} {r : Result Numbers Refusal} {ox' oy' : List Float} {cs' : List ℕ} (m c : ℕ) (ks : List ℕ) (ts : List Triangle)
+    → rx ≡ gathered xs ks → ry ≡ gathered ys ks → Leaves (fitted m c (elems (length rx) (λ i. i)) ts) rx ry ox oy cs r ox' oy' cs' → Leaves (fitted m c ks ts) xs ys ox oy cs r ox' oy' cs'
+leaves_gathered xs ys {rx} {ry} {ox} {oy} {cs} m c ks ts e f l =
+    let is : List ℕ = elems (length rx) (λ i. i) in
+    let n : length is ≡ length ks = elems_length (λ i. i) (length rx) ∙ ap length e ∙ gather_length nan xs ks in
+    let even : length rx ≡ length ry = omega (arith, ap length e, ap length f, gather_length nan xs ks, gather_length nan ys ks) in
+    let gx : gathered rx is ≡ gathered xs ks = gather_all nan rx (length rx) refl ∙ e in
+    let gy : gathered ry is ≡ gathered ys ks = gather_all nan ry (length rx) even ∙ f in
+    record {
+      answer = l.answer ∙ fit_same numbers numbers m c is ks ts n (ap (λ (k : ℕ). record { vertices = k; triangles = length ts }) n);
+      writes_x = l.writes_x ∙ ap (λ (a : Answer (List Float)). left a ox) (fit_same (λ (k : Cutting). put ox 0 (gathered rx k.ring)) (λ (k : Cutting). put ox 0 (gathered xs k.ring)) m c is ks ts n (ap (put ox 0) gx));
+      writes_y = l.writes_y ∙ ap (λ (a : Answer (List Float)). left a oy) (fit_same (λ (k : Cutting). put oy 0 (gathered ry k.ring)) (λ (k : Cutting). put oy 0 (gathered ys k.ring)) m c is ks ts n (ap (put oy 0) gy));
+      writes_corners = l.writes_corners ∙ ap (λ (a : Answer (List ℕ)). left a cs) (fit_same (λ (k : Cutting). put cs 0 (corners k.triangles)) (λ (k : Cutting). put cs 0 (corners k.triangles)) m c is ks ts n refl);
+    }
 
 -- ---- demand 3
 
@@ -147,16 +178,16 @@ module _ (xs ys : List Float) where
         rw (gx, gy, gc, h) (triangles_triangulation (gathered xs c.ring) (gathered ys c.ring) c.triangles e)
 
 -- what the call leaves is a triangulation
-pub leaves_demand : (xs ys ox oy : List Float) (cs : List ℕ) (r : Triangulated) {ox' oy' : List Float} {cs' : List ℕ} (a : Answer Cutting)
+pub leaves_demand : (xs ys ox oy : List Float) (cs : List ℕ) (r : Result Numbers Refusal) {ox' oy' : List Float} {cs' : List ℕ} (a : Answer Cutting)
     → triangulate_polygon xs ys (length ox) (length oy) (length cs) ≡ a → Leaves a xs ys ox oy cs r ox' oy' cs' → Demand3 r ox' oy' cs'
-leaves_demand xs ys ox oy cs (Refused why) a e l = tt
-leaves_demand xs ys ox oy cs (Counts v t) (refused n) e l = refused_given (sym l.answer)
-leaves_demand xs ys ox oy cs (Counts v t) (given c) e l =
+leaves_demand xs ys ox oy cs (Err why) a e l = tt
+leaves_demand xs ys ox oy cs (Ok n) (refused k) e l = refused_given (sym l.answer)
+leaves_demand xs ys ox oy cs (Ok n) (given c) e l =
     let same = given_same l.answer in
-    demand xs ys c (polygon_is xs ys (length ox) (length oy) (length cs) c e) ox oy cs v t (ap (λ (p : ℕ × ℕ). p.0) same) (ap (λ (p : ℕ × ℕ). p.1) same) l.writes_x l.writes_y l.writes_corners
+    demand xs ys c (polygon_is xs ys (length ox) (length oy) (length cs) c e) ox oy cs n.vertices n.triangles (ap (λ (p : Numbers). p.vertices) same) (ap (λ (p : Numbers). p.triangles) same) l.writes_x l.writes_y l.writes_corners
 
 -- what is left depends on the answer alone
-pub same_leaves : {xs ys ox oy : List Float} {cs : List ℕ} {r : Triangulated} {ox' oy' : List Float} {cs' : List ℕ} {a b : Answer Cutting} → a ≡ b → Leaves a xs ys ox oy cs r ox' oy' cs' → Leaves b xs ys ox oy cs r ox' oy' cs'
+pub same_leaves : {xs ys ox oy : List Float} {cs : List ℕ} {r : Result Numbers Refusal} {ox' oy' : List Float} {cs' : List ℕ} {a b : Answer Cutting} → a ≡ b → Leaves a xs ys ox oy cs r ox' oy' cs' → Leaves b xs ys ox oy cs r ox' oy' cs'
 same_leaves {xs = xs} {ys = ys} {ox = ox} {oy = oy} {cs = cs} {r = r} {ox' = ox'} {oy' = oy'} {cs' = cs'} e = subst (λ (a : Answer Cutting). Leaves a xs ys ox oy cs r ox' oy' cs') e
 
 -- ---- clipping a ring in the direction of its area
@@ -178,8 +209,8 @@ ring_triangles xs ys a w h f g =
 
 -- ---- what clipping a ring answers
 
-stalled : (a : Answer (List Triangle)) → refused 4 ≡ map_answer corners a → a ≡ refused 4
-stalled (refused n) e = sym (ap (map_answer (λ (l : List ℕ). triples l)) e)
+stalled : (a : Answer (List Triangle)) {n : ℕ} → refused n ≡ map_answer corners a → a ≡ refused n
+stalled (refused k) e = sym (ap (map_answer (λ (l : List ℕ). triples l)) e)
 stalled (given ts) e = refused_given e
 
 done : (a : Answer (List Triangle)) (l : List ℕ) → given l ≡ map_answer corners a → (a ≡ given (triples l)) × (corners (triples l) ≡ l)
@@ -189,29 +220,25 @@ done (given ts) l e =
     let g : triples l ≡ ts = ap triples f ∙ triples_corners ts in
     (ap given (sym g), ap corners g ∙ sym f)
 
--- rx and ry have been clipped, and out is what their clipping left
-module _ (rx ry : List Float) (out : List ℕ) (r : Cut) (g : cut_answer r out ≡ map_answer corners (triangles_of rx ry)) where
-  pub ring_stalled : r ≡ Stalled → triangles_of rx ry ≡ refused 4
-  ring_stalled s = stalled (triangles_of rx ry) (ap (λ (q : Cut). cut_answer q out) (sym s) ∙ g)
+module _ (rx ry : List Float) where
+  pub ring_stalled : {n : ℕ} → refused n ≡ map_answer corners (triangles_of rx ry) → triangles_of rx ry ≡ refused n
+  ring_stalled g = stalled (triangles_of rx ry) g
 
-  pub ring_cut : r ≡ Done → (triangles_of rx ry ≡ given (triples out)) × (corners (triples out) ≡ out)
-  ring_cut d = done (triangles_of rx ry) out (ap (λ (q : Cut). cut_answer q out) (sym d) ∙ g)
+  -- out is what clipping left
+  pub ring_cut : (out : List ℕ) → given out ≡ map_answer corners (triangles_of rx ry) → (triangles_of rx ry ≡ given (triples out)) × (corners (triples out) ≡ out)
+  ring_cut out g = done (triangles_of rx ry) out g
 
 -- The points at the places kept, gathered, are rx and ry; out has been written with what their clipping gives.
 module _ (xs ys rx ry : List Float) (m c : ℕ) (e : rx ≡ gathered xs (kept xs ys)) (f : ry ≡ gathered ys (kept xs ys)) where
   same_triangles : triangles_of rx ry ≡ triangles_of (gathered xs (kept xs ys)) (gathered ys (kept xs ys))
   same_triangles = ap (λ (l : List Float). triangles_of l ry) e ∙ ap (triangles_of (gathered xs (kept xs ys))) f
 
-  pub cut_stalled : (out : List ℕ) (r : Cut) → r ≡ Stalled → cut_answer r out ≡ map_answer corners (triangles_of rx ry) → cutting xs ys m c (kept xs ys) ≡ refused 4
-  cut_stalled out r s g = not_cut xs ys m c (kept xs ys) (sym same_triangles ∙ ring_stalled rx ry out r g s)
+  pub cut_stalled : {n : ℕ} → refused n ≡ map_answer corners (triangles_of rx ry) → cutting xs ys m c (kept xs ys) ≡ refused n
+  cut_stalled g = not_cut xs ys m c (kept xs ys) (sym same_triangles ∙ ring_stalled rx ry g)
 
-  module _ (out : List ℕ) (r : Cut) (d : r ≡ Done) (g : cut_answer r out ≡ map_answer corners (triangles_of rx ry)) where
+  module _ (out : List ℕ) (g : given out ≡ map_answer corners (triangles_of rx ry)) where
     pub whole_triangles : corners (triples out) ≡ out
-    whole_triangles = (ring_cut rx ry out r g d).1
+    whole_triangles = (ring_cut rx ry out g).1
 
     pub cut_done : (ks : List ℕ) → ks ≡ kept xs ys → fitted m c ks (triples out) ≡ cutting xs ys m c (kept xs ys)
-    cut_done ks h = ap (λ (l : List ℕ). fitted m c l (triples out)) h ∙ sym (cut_to xs ys m c (kept xs ys) (sym same_triangles ∙ (ring_cut rx ry out r g d).0))
-
--- the first n places of a list written over with the points at n places
-pub gathered_start : (l : List Float) (old new : List Float) (ks : List ℕ) (n : ℕ) → new ≡ put old 0 (gathered l ks) → n ≡ length ks → take n new ≡ gathered l ks
-gathered_start l old new ks n e h = put_start old (gathered l ks) e (h ∙ sym (gather_length nan l ks))
+    cut_done ks h = ap (λ (l : List ℕ). fitted m c l (triples out)) h ∙ sym (cut_to xs ys m c (kept xs ys) (sym same_triangles ∙ (ring_cut rx ry out g).0))

@@ -4,7 +4,7 @@ use mathlib.Core.Path.{◌≡◌, refl, sym, ap, ◌∙◌}
 use mathlib.Core.Bool.{Bool, true, false, not, ◌&&◌, cond}
 use mathlib.Core.List.{List, [], ◌∷◌, ◌++◌, map}
 use mathlib.Core.Logic.{◌⊎◌, inl, inr}
-use mathlib.Core.Option.{Option, some, none}
+use Rattle.std.specs.Prelude.{Option, Some, None}
 use native.Mathlib.Nat.{eq-or-lt_of_le}
 use native.Mathlib.Omega.{arith}
 use mir.Syntax.{w64}
@@ -14,7 +14,8 @@ use lib.Dec.{eqb, leb, ltb}
 use lib.IntN.{ℤ, pos, negsuc}
 use lib.ListN.{length, get_or, set, length-append}
 use lib.Ieee.{Float, nan}
-use borrow.Author.Tests.{not-true, not-false, eqb-true, eqb-false, eq-eqb, ne_eqb, ltb-true, ltb-false, lt-ltb, le-ltb, leb-true, le-leb, lt-leb}
+use Rattle.std.specs.Prelude.{Result, Ok, Err}
+use borrow.Author.Tests.{eqb-true, eqb-false, eq-eqb, ne_eqb, ltb-true, ltb-false, lt-ltb, le-ltb, leb-true, le-leb, lt-leb}
 use Rattle.lists.specs.Answer.{Answer, refused, given}
 use Rattle.lists.specs.Lists.{put, runs, elems, gather, passing, any_below, first}
 use Rattle.lists.proofs.Fills.{elems_length}
@@ -22,18 +23,16 @@ use Rattle.lists.proofs.Passing.{passing_more, passing_skips, passing_grows, pas
 use Rattle.lists.proofs.Places.{gather_length}
 use Rattle.lists.proofs.Answers.{passed}
 use Rattle.lists.proofs.Scans.{both, and_false, any_holds, any_nowhere}
-use Rattle.lists.proofs.Searches.{Searched, search_start, search_found, search_more, search_end, First, first_is, first_none, first_same}
+use Rattle.lists.proofs.Searches.{First, first_is, first_none, first_same}
 use Rattle.lists.proofs.Stores.{map_at, Gathered, gather_start, gather_more, gather_stays}
 use Rattle.binary64.specs.Numbers.{◌⊘◌, at, at_most}
 use Rattle.binary64.specs.Rounding.{nearest_capped}
 use Rattle.openrdson_core.specs.Refusals.{refusal_number}
 use Rattle.openrdson_core.specs.declared.refusals.Refusal.{Refusal}
 use Rattle.openrdson_core.specs.declared.refusals.Refusal.TheVariants as refusal
-use Rattle.openrdson_core.specs.declared.points.Check.{Check}
-use Rattle.openrdson_core.specs.declared.points.Check.TheVariants as check
-use Rattle.openrdson_core.specs.Answers.{check_answer}
+use Rattle.openrdson_core.specs.Answers.{answer}
 use Rattle.openrdson_core.specs.Mesh.{Mesh, the_mesh, the_counts, parallel}
-use Rattle.meshing.specs.declared.boxes.Meshed.TheVariants as meshed
+use Rattle.openrdson_core.specs.declared.mesh.Counts.{Counts}
 use Rattle.meshing.specs.declared.weld.Key.{Key}
 use Rattle.meshing.specs.Whole.{nodes_in, elements_fault, mesh_fault}
 use Rattle.meshing.specs.Welds as spec
@@ -121,8 +120,8 @@ pub found_most : (test : ℕ → Bool) (n : ℕ) → spec.found_or n (first test
 found_most test n = step (first test n 0) refl
   where
     step : (o : Option ℕ) → first test n 0 ≡ o → spec.found_or n o ≤ n
-    step none e = omega arith
-    step (some j) e = omega (arith, (first_is test n 0 j e).below)
+    step None e = omega arith
+    step (Some j) e = omega (arith, (first_is test n 0 j e).below)
 
 -- a place that passes is the one found exactly where no place before it passes
 pub found_first : (test : ℕ → Bool) (n i : ℕ) → i < n → test i ≡ true → eqb (spec.found_or n (first test n 0)) i ≡ not (any_below i test)
@@ -140,49 +139,8 @@ found_first test n i l t = step (first test n 0) refl
     up_to j f false e = ltb-false i j e
 
     step : (o : Option ℕ) → first test n 0 ≡ o → eqb (spec.found_or n o) i ≡ not (any_below i test)
-    step none e = absurd (differ (first_none test n 0 e i (omega arith) (omega arith)))
-    step (some j) e = let f = first_is test n 0 j e in at j f (eq-or-lt_of_le (up_to j f (ltb i j) refl))
-
--- a search that notes what it has found: none of the places before j, or the first that passes
-pub record Noted (test : ℕ → Bool) (n j found : ℕ) : Type 0 where
-  pub place : j ≤ n
-  pub within : found ≤ n
-  pub none_yet : found ≡ n → Searched test n j
-  pub noted : found < n → first test n 0 ≡ some found
-
-module _ (test : ℕ → Bool) (n : ℕ) where
-  pub noted_start : Noted test n 0 n
-  noted_start = record { place = omega arith; within = omega arith; none_yet = λ _. search_start test n; noted = λ h. absurd (omega arith) }
-
-  -- the loop goes on while places are left and the search is open
-  pub goes_on : (j : ℕ) {more : Bool} → (ltb j n && more) ≡ true → (j < n) × (more ≡ true)
-  goes_on j {more} e = let t = both (ltb j n) more e in (ltb-true j n t.0, t.1)
-
-  -- place j passes, or it does not
-  pub noted_found : (j : ℕ) {found next : ℕ} → Noted test n j found → (ltb j n && eqb found n) ≡ true → test j ≡ true → next ≡ j → Noted test n (j + 1) next
-  noted_found j w e t is =
-      let g = goes_on j e in
-      record { place = omega (arith, g.0); within = omega (arith, g.0); none_yet = λ z. absurd (omega (arith, g.0)); noted = λ _. search_found test n j (w.none_yet (eqb-true _ n g.1)) g.0 t ∙ ap some (sym is) }
-
-  pub noted_more : (j : ℕ) {found next : ℕ} → Noted test n j found → (ltb j n && eqb found n) ≡ true → test j ≡ false → next ≡ found → Noted test n (j + 1) next
-  noted_more j w e t is =
-      let g = goes_on j e in
-      record { place = omega (arith, g.0); within = omega (arith, w.within); none_yet = λ z. search_more test n j (w.none_yet (eqb-true _ n g.1)) g.0 t; noted = λ h. absurd (omega (arith, eqb-true _ n g.1)) }
-
-  -- it ends with the places, or with what it has found
-  pub noted_end : (j : ℕ) {found : ℕ} → Noted test n j found → (ltb j n && eqb found n) ≡ false → found ≡ spec.found_or n (first test n 0)
-  noted_end j {found} w e = at (eq-or-lt_of_le w.within)
-    where
-      all_tried : found ≡ n → (j ≡ n) ⊎ (j < n) → n ≤ j
-      all_tried is (inl q) = omega arith
-      all_tried is (inr l) =
-          let on : (ltb j n && eqb found n) ≡ true = rw (lt-ltb j n l, eq-eqb found n is) in
-          let z : ◌≡◌ {A = ℕ} 0 1 = ap (λ (b : Bool). cond b 1 0) (sym e ∙ on) in
-          absurd (omega arith)
-
-      at : (found ≡ n) ⊎ (found < n) → found ≡ spec.found_or n (first test n 0)
-      at (inl is) = is ∙ sym (ap (spec.found_or n) (search_end test n j (w.none_yet is) (all_tried is (eq-or-lt_of_le w.place))))
-      at (inr l) = sym (ap (spec.found_or n) (w.noted l))
+    step None e = absurd (differ (first_none test n 0 e i (omega arith) (omega arith)))
+    step (Some j) e = let f = first_is test n 0 j e in at j f (eq-or-lt_of_le (up_to j f (ltb i j) refl))
 
 -- ---- the nodes that are kept
 
@@ -323,7 +281,7 @@ module _ (tolerance : Float) (xs ys zs : List Float) {kx ky kz : List Float} (h 
 -- ---- the call
 
 -- a refusal leaves the lent lists as they were
-pub weld_refused : (lent : Mesh) (why : Refusal) (a : Answer Mesh) → a ≡ refused (refusal_number why) → spec.WeldedAs a lent (meshed.Refused why) lent
+pub weld_refused : (lent : Mesh) (why : Refusal) (a : Answer Mesh) → a ≡ refused (refusal_number why) → spec.WeldedAs a lent (Err why) lent
 weld_refused lent why a e = rw e record { answer = refl; lists = refl }
 
 module _ (tolerance : Float) (xs ys zs : List Float) (kinds places regions : List ℕ) (lent : Mesh) where
@@ -346,7 +304,7 @@ module _ (tolerance : Float) (xs ys zs : List Float) (kinds places regions : Lis
     pub weld_done : (xs' ys' zs' : List Float) (kinds' places' regions' : List ℕ) → count ≤ length lent.xs → length kinds ≤ length lent.kinds
         → xs' ≡ put lent.xs 0 (gather nan xs (spec.kept tolerance xs ys zs)) → ys' ≡ put lent.ys 0 (gather nan ys (spec.kept tolerance xs ys zs)) → zs' ≡ put lent.zs 0 (gather nan zs (spec.kept tolerance xs ys zs))
         → kinds' ≡ put lent.kinds 0 kinds → places' ≡ put lent.places 0 (map (spec.renumbered tolerance xs ys zs) places) → regions' ≡ put lent.regions 0 regions
-        → spec.WeldedAs (spec.fit_welded lent (spec.welded tolerance m)) lent (meshed.Done (the_counts count (length kinds))) (the_mesh xs' ys' zs' kinds' places' regions')
+        → spec.WeldedAs (spec.fit_welded lent (spec.welded tolerance m)) lent (Ok (the_counts count (length kinds))) (the_mesh xs' ys' zs' kinds' places' regions')
     unfolding spec.fit_welded spec.welded
     weld_done xs' ys' zs' kinds' places' regions' h g ex ey ez ek ep er =
         rw (as_many, le-leb count (length lent.xs) h, le-leb (length kinds) (length lent.kinds) g) record {
@@ -369,31 +327,15 @@ fine_weldable ok m e =
     record { even = even.0; few = leb-true _ _ (both (leb (length m.xs) 1048576) (leb (length m.kinds) 1048576) few.0).0; elements = range.1 }
 
 module _ (m : Mesh) (tolerance : Float) (lent : Mesh) where
-  pub weld_uneven : {even : Bool} → even ≡ parallel lent → not even ≡ true → spec.WeldedAs (spec.weld_nodes m tolerance lent) lent (meshed.Refused refusal.UnequalLists) lent
+  pub weld_uneven : parallel lent ≡ false → spec.WeldedAs (spec.weld_nodes m tolerance lent) lent (Err refusal.UnequalLists) lent
   unfolding spec.weld_nodes
-  weld_uneven {even} e h = weld_refused lent refusal.UnequalLists _ (rw (sym e ∙ not-true even h))
+  weld_uneven e = weld_refused lent refusal.UnequalLists _ (rw e)
 
-  -- what the call knows once the lent lists are even and the mesh is checked
-  pub record Known (even ok : Bool) (answer : Check) : Type 0 where
-    pub lists : even ≡ parallel lent
-    pub on : not even ≡ false
-    pub range : ok ≡ at_most 20 tolerance
-    pub mesh : check_answer answer ≡ mesh_fault ok m
-
-  module _ {even ok : Bool} {answer : Check} (k : Known even ok answer) where
-    known_even : parallel lent ≡ true
-    known_even = sym k.lists ∙ not-false even k.on
-
-    known_fault : mesh_fault (at_most 20 tolerance) m ≡ check_answer answer
-    known_fault = ap (λ (b : Bool). mesh_fault b m) (sym k.range) ∙ sym k.mesh
-
-    pub weld_faulty : (why : Refusal) → answer ≡ check.Refused why → spec.WeldedAs (spec.weld_nodes m tolerance lent) lent (meshed.Refused why) lent
+  module _ (even : parallel lent ≡ true) where
+    pub weld_faulty : {n : ℕ} {r : Result Counts Refusal} → mesh_fault (at_most 20 tolerance) m ≡ refused n → answer r ≡ refused n → spec.WeldedAs (spec.weld_nodes m tolerance lent) lent r lent
     unfolding spec.weld_nodes
-    weld_faulty why e = weld_refused lent why _ (rw (known_even, known_fault, e))
+    weld_faulty e f = rw (even, e) (record { answer = f; lists = refl })
 
-    pub weld_fine : answer ≡ check.Fine → Weldable m × (parallel lent ≡ true)
-    weld_fine e = (fine_weldable (at_most 20 tolerance) m (known_fault ∙ ap check_answer e), known_even)
-
-    pub weld_goes_on : answer ≡ check.Fine → spec.weld_nodes m tolerance lent ≡ spec.fit_welded lent (spec.welded tolerance m)
+    pub weld_goes_on : mesh_fault (at_most 20 tolerance) m ≡ given tt → spec.weld_nodes m tolerance lent ≡ spec.fit_welded lent (spec.welded tolerance m)
     unfolding spec.weld_nodes
-    weld_goes_on e = rw (known_even, known_fault, e)
+    weld_goes_on e = rw (even, e)

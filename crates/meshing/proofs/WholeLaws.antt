@@ -17,10 +17,7 @@ use Rattle.lists.proofs.Parts.{part_of_start}
 use Rattle.lists.proofs.Scans.{both, all_fails, all_at, all_from}
 use Rattle.binary64.specs.Numbers.{at, at_most}
 use Rattle.openrdson_core.specs.Mesh.{Mesh, parallel_lengths, parallel, kind_of, used_places, sound_element, inside_element, well_formed}
-use Rattle.openrdson_core.specs.Answers.{check_answer}
 use Rattle.openrdson_core.specs.declared.mesh.Counts.{Counts}
-use Rattle.openrdson_core.specs.declared.points.Check.{Check}
-use Rattle.openrdson_core.specs.declared.points.Check.TheVariants as check
 use Rattle.openrdson_core.proofs.MeshLaws.{Lengths, equal_lengths, counts_in, place_below, well_formed_lem}
 use Rattle.meshing.specs.Whole.{nodes_in, elements_fault, mesh_fault, up_to}
 
@@ -85,10 +82,6 @@ nothing_against ok m e =
       inside =
           λ e k l h. place_below nodes (part (8 * e) 8 places) (used_places (kind_of (get_or kinds e 0))) (all_at (inside_at kinds places nodes) (length kinds) five.0 e l) k h;
     }
-
--- the same of a check that found nothing
-pub found_whole : (ok : Bool) (m : Mesh) {r : Check} → check_answer r ≡ mesh_fault ok m → r ≡ check.Fine → Whole m
-found_whole ok m e is = nothing_against ok m (sym e ∙ ap check_answer is)
 
 -- ---- a well-formed mesh, taken to its counts, is refused for its size or for a number alone
 

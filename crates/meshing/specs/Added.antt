@@ -1,13 +1,12 @@
 -- What a region adds to a mesh, and the mesh with it: appended after the nodes and elements that are counted.
-use Rattle.std.specs.Prelude.{ℕ, ◌+◌, ◌*◌, ◌≡◌, Bool, true, ◌&&◌, ◌||◌, List, eqb, leb, ltb, length, get_or, Float}
-use Rattle.lists.specs.Answer.{Answer, refused, given, unless, map_answer, left}
+use Rattle.std.specs.Prelude.{ℕ, ◌+◌, ◌*◌, ◌≡◌, Bool, true, ◌&&◌, ◌||◌, List, eqb, leb, ltb, length, get_or, Float, Result}
+use Rattle.lists.specs.Answer.{Answer, given, unless, map_answer, left}
 use Rattle.lists.specs.Lists.{put, elems, part, all_below}
-use Rattle.openrdson_core.specs.Refusals.{refusal_number}
+use Rattle.openrdson_core.specs.Answers.{answer as answered}
+use Rattle.openrdson_core.specs.declared.refusals.Refusal.{Refusal}
 use Rattle.openrdson_core.specs.Mesh.{Mesh, the_mesh, the_counts, fits, kind_number, kind_of, used_places, rest_unused}
 use Rattle.openrdson_core.specs.declared.mesh.Counts.{Counts}
 use Rattle.openrdson_core.specs.declared.mesh.ElementType.TheVariants.{Hex, Prism}
-use Rattle.meshing.specs.declared.boxes.Meshed.{Meshed}
-use Rattle.meshing.specs.declared.boxes.Meshed.TheVariants as meshed
 
 -- nodes and elements; the node places are numbers in the whole mesh
 pub record Part : Type 0 where
@@ -35,12 +34,8 @@ fit_part c m p =
 
 -- ---- what a region call answers, the new counts, and what it leaves in the mesh
 
-abbrev pub meshed_answer : Meshed → Answer Counts
-meshed_answer (meshed.Done counts) = given counts
-meshed_answer (meshed.Refused why) = refused (refusal_number why)
-
-pub record Adds (a : Answer Part) (c : Counts) (region : ℕ) (m m' : Mesh) (r : Meshed) : Type 0 where
-  pub answer : meshed_answer r ≡ map_answer (grown c) a
+pub record Adds (a : Answer Part) (c : Counts) (region : ℕ) (m m' : Mesh) (r : Result Counts Refusal) : Type 0 where
+  pub answer : answered r ≡ map_answer (grown c) a
   pub lists : m' ≡ left (map_answer (λ p. added c region p m) a) m
 
 -- ---- what an accepted region call appends, where the mesh has `base` nodes already (proofs/WellFormed)

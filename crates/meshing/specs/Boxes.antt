@@ -1,11 +1,10 @@
 -- Meshing a box region: structured hexes.
 use Rattle.std.specs.Prelude.{ℕ, ◌+◌, ◌*◌, ◌≤◌, ◌≡◌, Bool, ◌&&◌, leb, length, Float}
 use Rattle.std.specs.Float.Ieee.{lt}
-use Rattle.lists.specs.Answer.{Answer, refused, given, unless}
+use Rattle.lists.specs.Answer.{Answer, given, unless}
 use Rattle.lists.specs.Lists.{elems}
 use Rattle.binary64.specs.Numbers.{◌⊖◌, at_most}
 use Rattle.binary64.specs.Constants.{zero64}
-use Rattle.openrdson_core.specs.Refusals.{refusal_number}
 use Rattle.openrdson_core.specs.Points.{the_point, point_in}
 use Rattle.openrdson_core.specs.Solids.{heights_in}
 use Rattle.openrdson_core.specs.Mesh.{Mesh, parallel_lengths, parallel, within_lengths, within, fits, kind_number}
@@ -13,8 +12,7 @@ use Rattle.openrdson_core.specs.declared.mesh.Counts.{Counts}
 use Rattle.openrdson_core.specs.declared.mesh.ElementType.TheVariants.{Hex}
 use Rattle.openrdson_core.specs.declared.bounds.Bbox.{Bbox}
 use Rattle.meshing.specs.declared.cells.MeshConfig.{MeshConfig}
-use Rattle.meshing.specs.declared.boxes.BoxPlan.{BoxPlan}
-use Rattle.meshing.specs.declared.boxes.BoxPlan.TheVariants as plan
+use Rattle.meshing.specs.declared.boxes.Cells.{Cells}
 use Rattle.meshing.specs.Cells.{cells_for, axis_at}
 use Rattle.meshing.specs.Grid.{grid, grid_nodes, grid_cells, hex_places}
 use Rattle.meshing.specs.Added.{Part}
@@ -75,17 +73,12 @@ mesh_box b z0 z1 material config c m =
 
 -- ---- the same from numbers and the lists' lengths: how many cells a box has along x, y and z, or the refusal (proofs/BoxLaws ties it to `mesh_box`)
 
-pub record BoxCells : Type 0 where
-  pub nx : ℕ
-  pub ny : ℕ
-  pub nz : ℕ
+-- a box's cells, by a name that crates above can say
+abbrev pub BoxCells : Type 0
+BoxCells = Cells
 
 abbrev pub the_cells : ℕ → ℕ → ℕ → BoxCells
 the_cells nx ny nz = record { nx = nx; ny = ny; nz = nz }
-
-abbrev pub plan_answer : BoxPlan → Answer BoxCells
-plan_answer (plan.Cells nx ny nz) = given (the_cells nx ny nz)
-plan_answer (plan.Refused why) = refused (refusal_number why)
 
 -- the nodes and hexes of a box of so many cells
 abbrev pub box_of_cells : ℕ → Bbox → Float → Float → BoxCells → Part

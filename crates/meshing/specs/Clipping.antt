@@ -1,6 +1,6 @@
 -- Ear clipping (Meisters), over any test of what an ear is: `ear w i` says whether the vertex at place i of what remains, w, is an ear.
 use Rattle.std.specs.Prelude.{ℕ, zero, suc, ◌+◌, ◌-◌, Bool, List, [], ◌∷◌, ◌++◌, length, get_or, take, drop}
-use Rattle.std.proofs.Math.Option.{Option, some, none}
+use Rattle.std.specs.Prelude.{Option, Some, None}
 use Rattle.lists.specs.Answer.{Answer, refused, given, map_answer}
 use Rattle.lists.specs.Lists.{first, next_of, prev_of}
 use Rattle.meshing.specs.Triangles.{Triangle, tri}
@@ -23,8 +23,8 @@ without w i = take i w ++ drop (i + 1) w
 
 -- the ear's triangle, then those of what remains; with no ear, clipping is refused with 4
 abbrev pub cut_at : (List ℕ → Answer (List Triangle)) → List ℕ → Option ℕ → Answer (List Triangle)
-cut_at rest w none = refused 4
-cut_at rest w (some i) = map_answer (λ ts. triangle_at w i ∷ ts) (rest (without w i))
+cut_at rest w None = refused 4
+cut_at rest w (Some i) = map_answer (λ ts. triangle_at w i ∷ ts) (rest (without w i))
 
 -- k first ears are cut, one after the other; the three vertices that remain are taken untested, in their order
 abbrev pub cutting : (List ℕ → ℕ → Bool) → ℕ → List ℕ → Answer (List Triangle)

@@ -1,5 +1,5 @@
 -- The edges of a ring that cross a height, by the even-odd rule. Edge e runs from vertex e to the next, the last to the first.
-use Rattle.std.specs.Prelude.{ℕ, ◌≤◌, ◌≡◌, Bool, true, false, not, ◌&&◌, ◌||◌, cond, List, ltb, length, take, Float}
+use Rattle.std.specs.Prelude.{ℕ, ◌≤◌, ◌≡◌, Bool, true, false, not, ◌&&◌, ◌||◌, cond, List, ltb, length, take, Float, Option, Some, None}
 use Rattle.std.specs.Bool.{xor}
 use Rattle.std.specs.Float.Ieee.{lt, le}
 use Rattle.lists.specs.Lists.{elems, passing, all_of, next_of}
@@ -8,8 +8,6 @@ use Rattle.binary64.specs.Numbers.{◌⊕◌, ◌⊖◌, ◌⊗◌, ◌⊘◌, a
 use Rattle.binary64.specs.Constants.{tiny300}
 use Rattle.openrdson_core.specs.Points.{point_at}
 use Rattle.openrdson_core.specs.declared.points.Point.{Point}
-use Rattle.meshing.specs.declared.crossings.Crossed.{Crossed}
-use Rattle.meshing.specs.declared.crossings.Crossed.TheVariants as crossed
 
 -- just one end of edge e lies at the height y or below it: an end on it counts with the lower side
 unfoldable pub spans : List Float → Float → ℕ → Bool
@@ -57,6 +55,6 @@ module _ (xs ys : List Float) (y : Float) where
     pub sorted : fine ≡ true → edges' ≡ sort_by (or_number (left_of xs ys y)) edges
 
   -- the first of a list, and how many there are
-  abbrev pub CrossedAs : Crossed → List ℕ → Type 0
-  CrossedAs (crossed.Edges count) edges' = (all_of (crosses_in xs ys y) (crossings xs ys y) ≡ true) × (take count edges' ≡ crossings xs ys y) × (count ≤ length ys)
-  CrossedAs crossed.Outside edges' = all_of (crosses_in xs ys y) (crossings xs ys y) ≡ false
+  abbrev pub CrossedAs : Option ℕ → List ℕ → Type 0
+  CrossedAs (Some count) edges' = (all_of (crosses_in xs ys y) (crossings xs ys y) ≡ true) × (take count edges' ≡ crossings xs ys y) × (count ≤ length ys)
+  CrossedAs None edges' = all_of (crosses_in xs ys y) (crossings xs ys y) ≡ false

@@ -1,8 +1,8 @@
 -- The ear rule on binary64 values, each operation rounded once in the Rust's order, and the triangles of a cleaned ring.
-use Rattle.std.specs.Prelude.{ℕ, Bool, not, ◌&&◌, ◌||◌, List, eqb, leb, length, Float}
+use Rattle.std.specs.Prelude.{ℕ, Bool, not, ◌&&◌, ◌||◌, List, Option, Some, None, eqb, leb, length, Float}
 use Rattle.std.specs.Float.Ieee.{lt}
 use Rattle.lists.specs.Answer.{Answer, unless}
-use Rattle.lists.specs.Lists.{all_below}
+use Rattle.lists.specs.Lists.{all_below, first}
 use Rattle.binary64.specs.Numbers.{◌⊖◌, ◌⊗◌}
 use Rattle.binary64.specs.Constants.{zero64}
 use Rattle.openrdson_core.specs.Area.{signed_area}
@@ -48,6 +48,10 @@ module _ (xs ys : List Float) where
 
   abbrev pub is_ear : List ℕ → ℕ → Bool
   is_ear w i = is_ear_of w (before w i) (here w i) (after w i)
+
+  -- the place of the first ear of a walk, if it has one
+  abbrev pub first_ear : List ℕ → Option ℕ
+  first_ear w = first (is_ear w) (length w) 0
 
   -- the walk is reversed if the computed area is below zero
   abbrev pub is_forward : Bool

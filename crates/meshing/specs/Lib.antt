@@ -1,5 +1,4 @@
 -- The definitions of meshing.
-pub mod Answers
 pub mod Ring
 pub mod Triangles
 pub mod Clipping

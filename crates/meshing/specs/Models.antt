@@ -1,14 +1,15 @@
 -- Meshing a model: region by region, each diagnostic 0 or its refusal; a refused region leaves the mesh so far as it is.
-use Rattle.std.specs.Prelude.{ℕ, ◌-◌, ◌≡◌, Bool, ◌&&◌, cond, List, [], ◌∷◌, ◌++◌, eqb, leb, length, get_or, Float}
+use Rattle.std.specs.Prelude.{ℕ, ◌-◌, ◌≡◌, Bool, ◌&&◌, cond, List, [], ◌∷◌, ◌++◌, eqb, leb, length, get_or, Float, Result}
 use Rattle.lists.specs.Answer.{Answer, given, unless, and_then, map_answer, left, status}
 use Rattle.lists.specs.Lists.{put, part, fold_below, all_of}
 use Rattle.binary64.specs.Numbers.{at}
 use Rattle.openrdson_core.specs.Mesh.{Mesh, parallel, within}
+use Rattle.openrdson_core.specs.Answers.{answer as answered}
 use Rattle.openrdson_core.specs.declared.mesh.Counts.{Counts}
+use Rattle.openrdson_core.specs.declared.refusals.Refusal.{Refusal}
 use Rattle.geometry.specs.Regions.{Regions, even_regions, region_at}
-use Rattle.meshing.specs.declared.boxes.Meshed.{Meshed}
 use Rattle.meshing.specs.declared.cells.MeshConfig.{MeshConfig}
-use Rattle.meshing.specs.Added.{Part, grown, added, meshed_answer}
+use Rattle.meshing.specs.Added.{Part, grown, added}
 use Rattle.meshing.specs.Regions.{mesh_region}
 
 -- ---- overrides: a material and its two cell sizes
@@ -88,8 +89,8 @@ abbrev pub appended_regions : ℕ → Run → List ℕ
 appended_regions elements s = part elements (s.counts.elements - elements) s.mesh.regions
 
 -- what the call answers, the counts, and what it leaves in the mesh and in the diagnostics
-pub record ModelAs (a : Answer Run) (m : Mesh) (ds : List ℕ) (result : Meshed) (m' : Mesh) (ds' : List ℕ) : Type 0 where
-  pub answer : meshed_answer result ≡ map_answer (λ (s : Run). s.counts) a
+pub record ModelAs (a : Answer Run) (m : Mesh) (ds : List ℕ) (result : Result Counts Refusal) (m' : Mesh) (ds' : List ℕ) : Type 0 where
+  pub answer : answered result ≡ map_answer (λ (s : Run). s.counts) a
   pub mesh : m' ≡ left (map_answer (λ (s : Run). s.mesh) a) m
   pub diagnostics : ds' ≡ left (map_answer (λ (s : Run). put ds 0 s.diagnostics) a) ds
 

@@ -1,5 +1,5 @@
 -- Cleaning a ring: the places of the points that are kept.
-use Rattle.std.specs.Prelude.{ℕ, ◌-◌, ◌≤◌, ◌≡◌, Bool, ◌&&◌, cond, List, [], ◌∷◌, ◌++◌, ltb, leb, eqb, length, get_or, take, Float}
+use Rattle.std.specs.Prelude.{ℕ, ◌-◌, ◌≤◌, ◌≡◌, Bool, ◌&&◌, cond, List, [], ◌∷◌, ◌++◌, ltb, leb, eqb, length, get_or, take, Float, Result}
 use Rattle.std.specs.Float.{nan}
 use Rattle.std.specs.Float.Ieee.{lt}
 use Rattle.lists.specs.Answer.{Answer, given, unless, and_then, map_answer, left}
@@ -7,9 +7,9 @@ use Rattle.lists.specs.Lists.{fold_below, put, gather, Below}
 use Rattle.binary64.specs.Numbers.{◌⊖◌, abs}
 use Rattle.binary64.specs.Constants.{tiny52}
 use Rattle.openrdson_core.specs.Points.{point_at, ring_fault}
+use Rattle.openrdson_core.specs.Answers.{answer as answered}
 use Rattle.openrdson_core.specs.declared.points.Point.{Point}
-use Rattle.meshing.specs.Answers.{cleaned_answer}
-use Rattle.meshing.specs.declared.ring.Cleaned.{Cleaned}
+use Rattle.openrdson_core.specs.declared.refusals.Refusal.{Refusal}
 
 -- the points differ by less than 2^-52 in x and in y
 abbrev pub is_close : Point → Point → Bool
@@ -49,7 +49,7 @@ pub record KeptIn (xs ys : List Float) (places : List ℕ) (count : ℕ) : Type 
   pub within : count ≤ length xs
 
 -- What the call answers, and the lists ox and oy after it, ox' and oy': the coordinates kept stand over their start, and a refused call writes nothing.
-pub record CleanedAs (xs ys ox oy : List Float) (r : Cleaned) (ox' oy' : List Float) : Type 0 where
-  pub answer : cleaned_answer r ≡ map_answer length (dedup_ring xs ys (length ox) (length oy))
+pub record CleanedAs (xs ys ox oy : List Float) (r : Result ℕ Refusal) (ox' oy' : List Float) : Type 0 where
+  pub answer : answered r ≡ map_answer length (dedup_ring xs ys (length ox) (length oy))
   pub writes_x : ox' ≡ left (map_answer (λ ks. put ox 0 (gathered xs ks)) (dedup_ring xs ys (length ox) (length oy))) ox
   pub writes_y : oy' ≡ left (map_answer (λ ks. put oy 0 (gathered ys ks)) (dedup_ring xs ys (length ox) (length oy))) oy

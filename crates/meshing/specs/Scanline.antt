@@ -1,17 +1,12 @@
 -- What the scanline answers for a ring, cleaned once: a refusal, or quads; and the nodes and prisms of these.
-use Rattle.std.specs.Prelude.{ℕ, zero, suc, ◌+◌, ◌*◌, ◌≤◌, ◌≡◌, Bool, true, false, not, ◌&&◌, List, [], ◌∷◌, leb, length, Float}
-use Rattle.lists.specs.Answer.{Answer, refused, given, unless}
+use Rattle.std.specs.Prelude.{ℕ, zero, suc, ◌+◌, ◌*◌, ◌≤◌, ◌≡◌, Bool, true, false, not, ◌&&◌, List, [], ◌∷◌, leb, length, Float, Option, Some, None}
+use Rattle.lists.specs.Answer.{Answer, given, unless}
 use Rattle.lists.specs.Lists.{runs, elems, all_of, joined}
-use Rattle.openrdson_core.specs.Refusals.{refusal_number}
 use Rattle.openrdson_core.specs.Points.{ring_fault}
 use Rattle.openrdson_core.specs.Mesh.{unused, kind_number}
 use Rattle.openrdson_core.specs.declared.mesh.ElementType.TheVariants.{Prism}
 use Rattle.meshing.specs.declared.quads.Quad.{Quad}
 use Rattle.meshing.specs.declared.quads.Tally.{Tally}
-use Rattle.meshing.specs.declared.scanline.Bands.{Bands}
-use Rattle.meshing.specs.declared.scanline.Bands.TheVariants as bands
-use Rattle.meshing.specs.declared.scanline.Scanned.{Scanned}
-use Rattle.meshing.specs.declared.scanline.Scanned.TheVariants as scanned
 use Rattle.meshing.specs.Added.{Part}
 use Rattle.meshing.specs.Levels.{Band, levels, bands_of, middle}
 use Rattle.meshing.specs.Crossings.{crossings, crosses_in}
@@ -42,11 +37,6 @@ module _ (xs ys : List Float) where
       (unless (leb 1 (length (quads_of xs ys))) 11
       (unless (all_of quad_in (quads_of xs ys)) 1
       (given (quads_of xs ys)))))))
-
--- how many quads, or the refusal
-abbrev pub scanned_answer : Scanned → Answer ℕ
-scanned_answer (scanned.Quads n) = given n
-scanned_answer (scanned.Refused why) = refused (refusal_number why)
 
 -- ---- four bottom nodes, then four top nodes a quad, never shared
 
@@ -84,9 +74,9 @@ pub record Tallied (t : Tally) (qs : List Quad) (t' : Tally) : Type 0 where
   pub inside : t'.inside ≡ (t.inside && all_of quad_in qs)
 
 -- the tally of bands, where each is crossed in range
-abbrev pub BandsAs : List Float → List Float → List Band → Bands → Type 0
-BandsAs xs ys bs (bands.Quads t) = (bands_in xs ys bs ≡ true) × (t.quads ≡ length (joined (band_quads xs ys) bs)) × (t.inside ≡ all_of quad_in (joined (band_quads xs ys) bs))
-BandsAs xs ys bs bands.Outside = bands_in xs ys bs ≡ false
+abbrev pub BandsAs : List Float → List Float → List Band → Option Tally → Type 0
+BandsAs xs ys bs (Some t) = (bands_in xs ys bs ≡ true) × (t.quads ≡ length (joined (band_quads xs ys) bs)) × (t.inside ≡ all_of quad_in (joined (band_quads xs ys) bs))
+BandsAs xs ys bs None = bands_in xs ys bs ≡ false
 
 -- a ring that has been checked, at most 512 levels, and room to work in
 pub record Worked (xs ys levels : List Float) (edges at : ℕ) : Type 0 where

@@ -1,14 +1,14 @@
 -- Triangulating a ring: cleaned, walked round, clipped, and written where there is room.
-use Rattle.std.specs.Prelude.{ℕ, ◌*◌, ◌≡◌, List, eqb, leb, length, take, Float}
-use Rattle.lists.specs.Answer.{Answer, refused, given, unless, and_then, map_answer, left}
+use Rattle.std.specs.Prelude.{ℕ, ◌*◌, ◌≡◌, List, eqb, leb, length, take, Float, Result, Ok, Err}
+use Rattle.lists.specs.Answer.{Answer, given, unless, and_then, map_answer, left}
 use Rattle.lists.specs.Lists.{put}
-use Rattle.openrdson_core.specs.Refusals.{refusal_number}
+use Rattle.openrdson_core.specs.Answers.{answer as answered}
+use Rattle.openrdson_core.specs.declared.refusals.Refusal.{Refusal}
 use Rattle.openrdson_core.specs.Points.{ring_fault}
 use Rattle.meshing.specs.Ring.{kept, gathered}
 use Rattle.meshing.specs.Triangles.{Triangle, corners, triples, Triangulation}
 use Rattle.meshing.specs.Ears.{is_forward, triangles_of}
-use Rattle.meshing.specs.declared.triangulate.Triangulated.{Triangulated}
-use Rattle.meshing.specs.declared.triangulate.Triangulated.TheVariants as triangulated
+use Rattle.meshing.specs.declared.triangulate.Triangulation.{Triangulation as Numbers}
 
 -- the cleaned ring, as the places kept, and its triangles
 pub record Cutting : Type 0 where
@@ -29,17 +29,16 @@ triangulate_polygon xs ys m n c = unless (eqb m n) 16 (and_then (ring_fault xs y
 
 -- ---- what the call answers, the numbers of vertices and of triangles, and what it leaves in the lists
 
-abbrev pub triangulated_answer : Triangulated → Answer (ℕ × ℕ)
-triangulated_answer (triangulated.Counts vertices triangles) = given (vertices, triangles)
-triangulated_answer (triangulated.Refused why) = refused (refusal_number why)
+abbrev pub numbers : Cutting → Numbers
+numbers c = record { vertices = length c.ring; triangles = length c.triangles }
 
-pub record Leaves (a : Answer Cutting) (xs ys ox oy : List Float) (cs : List ℕ) (r : Triangulated) (ox' oy' : List Float) (cs' : List ℕ) : Type 0 where
-  pub answer : triangulated_answer r ≡ map_answer (λ (c : Cutting). (length c.ring, length c.triangles)) a
+pub record Leaves (a : Answer Cutting) (xs ys ox oy : List Float) (cs : List ℕ) (r : Result Numbers Refusal) (ox' oy' : List Float) (cs' : List ℕ) : Type 0 where
+  pub answer : answered r ≡ map_answer numbers a
   pub writes_x : ox' ≡ left (map_answer (λ (c : Cutting). put ox 0 (gathered xs c.ring)) a) ox
   pub writes_y : oy' ≡ left (map_answer (λ (c : Cutting). put oy 0 (gathered ys c.ring)) a) oy
   pub writes_corners : cs' ≡ left (map_answer (λ (c : Cutting). put cs 0 (corners c.triangles)) a) cs
 
 -- demand 3, of the lists written: the triangles are a triangulation of the ring, walked round in the direction of its computed area
-abbrev pub Demand3 : Triangulated → List Float → List Float → List ℕ → Type 0
-Demand3 (triangulated.Counts vertices triangles) ox oy cs = Triangulation (is_forward (take vertices ox) (take vertices oy)) vertices (triples (take (triangles * 3) cs))
-Demand3 (triangulated.Refused why) ox oy cs = Unit
+abbrev pub Demand3 : Result Numbers Refusal → List Float → List Float → List ℕ → Type 0
+Demand3 (Ok n) ox oy cs = Triangulation (is_forward (take n.vertices ox) (take n.vertices oy)) n.vertices (triples (take (n.triangles * 3) cs))
+Demand3 (Err why) ox oy cs = Unit

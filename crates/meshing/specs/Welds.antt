@@ -1,15 +1,16 @@
 -- Welding: of the nodes with one key the first is kept, in order, and node places are renumbered.
-use Rattle.std.specs.Prelude.{ℕ, ◌≡◌, Bool, false, not, ◌&&◌, cond, List, map, eqb, leb, ltb, ℤ, pos, negsuc, length, get_or, Float}
-use Rattle.std.proofs.Math.Option.{Option, some, none}
+use Rattle.std.specs.Prelude.{ℕ, ◌≡◌, Bool, false, not, ◌&&◌, cond, List, map, eqb, leb, ltb, ℤ, pos, negsuc, length, get_or, Float, Result}
+use Rattle.std.specs.Prelude.{Option, Some, None}
 use Rattle.std.specs.Float.{nan}
 use Rattle.lists.specs.Answer.{Answer, given, unless, and_then, map_answer, left}
 use Rattle.lists.specs.Lists.{put, elems, gather, passing, any_below, first}
 use Rattle.binary64.specs.Numbers.{◌⊘◌, at, at_most}
 use Rattle.binary64.specs.Rounding.{nearest_capped}
 use Rattle.openrdson_core.specs.Mesh.{Mesh, the_mesh, the_counts, parallel}
-use Rattle.meshing.specs.declared.boxes.Meshed.{Meshed}
+use Rattle.openrdson_core.specs.Answers.{answer as answered}
+use Rattle.openrdson_core.specs.declared.mesh.Counts.{Counts}
+use Rattle.openrdson_core.specs.declared.refusals.Refusal.{Refusal}
 use Rattle.meshing.specs.declared.weld.Key.{Key}
-use Rattle.meshing.specs.Added.{meshed_answer}
 use Rattle.meshing.specs.Whole.{mesh_fault}
 
 -- ---- keys
@@ -30,8 +31,8 @@ same_key a b = same a.x b.x && same a.y b.y && same a.z b.z
 
 -- the place that a search found, or n
 abbrev pub found_or : ℕ → Option ℕ → ℕ
-found_or n none = n
-found_or n (some i) = i
+found_or n None = n
+found_or n (Some i) = i
 
 module _ (tolerance : Float) (xs ys zs : List Float) where
   -- the key of node i: each coordinate over the tolerance, rounded with halves away from zero, capped to i64; not-a-number gives 0
@@ -84,8 +85,8 @@ written_over lent w =
     (put lent.kinds 0 w.kinds) (put lent.places 0 w.places) (put lent.regions 0 w.regions)
 
 -- what the call answers, the counts of the welded mesh, and what it leaves in the lent lists
-pub record WeldedAs (a : Answer Mesh) (lent : Mesh) (r : Meshed) (lent' : Mesh) : Type 0 where
-  pub answer : meshed_answer r ≡ map_answer (λ (w : Mesh). the_counts (length w.xs) (length w.kinds)) a
+pub record WeldedAs (a : Answer Mesh) (lent : Mesh) (r : Result Counts Refusal) (lent' : Mesh) : Type 0 where
+  pub answer : answered r ≡ map_answer (λ (w : Mesh). the_counts (length w.xs) (length w.kinds)) a
   pub lists : lent' ≡ left (map_answer (written_over lent) a) lent
 
 -- ---- the coordinates of the nodes that are kept, in three lists

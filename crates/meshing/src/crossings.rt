@@ -10,14 +10,8 @@ ghost use Rattle.meshing.specs.Crossings as spec;
 use crate::ring::{next_place, point_at};
 use openrdson_core::Point;
 
-// How many edges cross a height; or that one crosses it where document 01 admits no number.
-#[derive(Clone, Copy)]
-pub enum Crossed {
-    Edges(usize),
-    Outside,
-}
-
-// Of edges that span the height `below`, in any order, the first m of `edges`: makes them those that cross the height y, from left to right.
+// Of edges that span the height `below`, in any order, the first m of `edges`: makes them those that cross the height y, from left to right, and counts
+// them; none if one crosses it where document 01 admits no number.
 // The edges of one band are nearly those of the next, in nearly the same order. For callers that have checked the ring.
 pub fn cross(
     xs: &[f64],
@@ -27,19 +21,20 @@ pub fn cross(
     edges: &mut [usize],
     at: &mut [f64],
     m: usize,
-) -> Crossed
+) -> Option<usize>
     requires { (length ys.now ≡ length xs.now) × (length ys.now ≤ length edges.old) × (length ys.now ≤ length at.old) × (m ≤ length edges.old) × SameEntries (take m edges.old) (spec.spanning ys.now below) }
     ensures { spec.CrossedAs xs.now ys.now y result edges.new }
 {
     let count = next_edges(xs, ys, below, y, edges, m);
     if sort_crossings(xs, ys, y, &mut edges[..count], at) {
-        return Crossed::Edges(count);
+        return Some(count);
     }
-    Crossed::Outside
+    None
 }
 
 // Of edges that span the height `below`, in any order, the first m of `edges`: makes them those that span the height y, and counts them: first those
 // that were there, in their order, then the new ones.
+#[tactic(auto, using(crate::proofs::CrossingLaws::spanning_below, crate::proofs::CrossingLaws::next_most, crate::proofs::CrossingLaws::next_spanning, lists::proofs::Parts::between_lent, lists::proofs::Passing::same_between, lists::proofs::Places::below_drop))]
 fn next_edges(xs: &[f64], ys: &[f64], below: f64, y: f64, edges: &mut [usize], m: usize) -> usize
     requires { (length ys.now ≡ length xs.now) × (length ys.now ≤ length edges.old) × (m ≤ length edges.old) × SameEntries (take m edges.old) (spec.spanning ys.now below) }
     ensures { SameEntries (take result edges.new) (spec.spanning ys.now y) × (result ≤ length ys.now) }
@@ -65,14 +60,12 @@ fn keep_spanning(ys: &[f64], y: f64, edges: &mut [usize], m: usize) -> usize
     ensures { (take result edges.new ≡ passing (spec.spans ys.now y) (take m edges.old)) × (result ≤ m) }
 {
     let mut count = 0;
-    let mut i = 0;
-    while i < m {
+    for i in 0..m {
         let e = edges[i];
         if spans(ys, y, e) {
             edges[count] = e;
             count += 1;
         }
-        i += 1;
     }
     count
 }
@@ -90,25 +83,19 @@ fn add_spanning(ys: &[f64], below: f64, y: f64, edges: &mut [usize], m: usize) -
     let mut count = m;
     let first_low = ys[0] <= y;
     let mut is_low = first_low;
-    let mut e = 0;
-    while e < n {
-        let mut end_low = first_low;
-        if e + 1 < n {
-            end_low = ys[e + 1] <= y;
-        }
-        if is_low != end_low {
-            if !spans(ys, below, e) {
-                edges[count] = e;
-                count += 1;
-            }
+    for e in 0..n {
+        let end_low = if e + 1 < n { ys[e + 1] <= y } else { first_low };
+        if is_low != end_low && !spans(ys, below, e) {
+            edges[count] = e;
+            count += 1;
         }
         is_low = end_low;
-        e += 1;
     }
     count
 }
 
 // x at the height y on the line from a to b.
+#[tactic(auto, unfolding(crate::specs::Crossings::line_at))]
 fn line_at(a: Point, b: Point, y: f64) -> f64
     ensures { result ≡ spec.line_at a b y }
 {
@@ -119,6 +106,7 @@ fn line_at(a: Point, b: Point, y: f64) -> f64
 }
 
 // x at the height y on edge e.
+#[tactic(auto, unfolding(crate::specs::Crossings::edge_at))]
 pub fn edge_at(xs: &[f64], ys: &[f64], y: f64, e: usize) -> f64
     requires { (length ys.now ≡ length xs.now) × (e < length xs.now) }
     ensures { result ≡ spec.edge_at xs.now ys.now y e }
@@ -128,6 +116,7 @@ pub fn edge_at(xs: &[f64], ys: &[f64], y: f64, e: usize) -> f64
 }
 
 // Turns the edges round if the last crosses the height left of the first: those of a comb may come from right to left.
+#[tactic(auto, using(lists::proofs::Places::below_at, lists::proofs::Counts::total_reverse))]
 fn turn_if_falling(xs: &[f64], ys: &[f64], y: f64, edges: &mut [usize])
     requires { (length ys.now ≡ length xs.now) × Below (length xs.now) edges.old }
     ensures { SameEntries edges.new edges.old }
@@ -137,63 +126,45 @@ fn turn_if_falling(xs: &[f64], ys: &[f64], y: f64, edges: &mut [usize])
         return;
     }
     if edge_at(xs, ys, y, edges[m - 1]) < edge_at(xs, ys, y, edges[0]) {
-        turn_round(edges);
-    }
-}
-
-// Turns a list of edges round.
-fn turn_round(edges: &mut [usize])
-    ensures { SameEntries edges.new edges.old }
-{
-    let mut i = 0;
-    let mut j = edges.len();
-    while i + 1 < j {
-        j -= 1;
-        let e = edges[i];
-        edges[i] = edges[j];
-        edges[j] = e;
-        i += 1;
+        edges.reverse();
     }
 }
 
 // Sorts the edges by x at the height y, and those that cross it at one x by their number; false if one crosses it out of range.
+#[tactic(auto, using(crate::proofs::CrossingLaws::sorting_start))]
 fn sort_crossings(xs: &[f64], ys: &[f64], y: f64, edges: &mut [usize], at: &mut [f64]) -> bool
     requires { (length ys.now ≡ length xs.now) × (length edges.old ≤ length at.old) × Below (length xs.now) edges.old }
     ensures { spec.SortedAs xs.now ys.now y edges.old result edges.new }
 {
-    let m = edges.len();
-    let mut i = 0;
-    while i < m {
+    for i in 0..edges.len() {
         let e = edges[i];
         let x = edge_at(xs, ys, y, e);
         if !binary64::coordinate_in_range(x) {
             return false;
         }
         insert_crossing(edges, at, i, x, e);
-        i += 1;
     }
     true
 }
 
 // Puts e into the first m edges where it goes, and x into the first m of `at` at the same place. Later edges are kept.
+#[tactic(auto, using(lists::proofs::Sorts::shift_start, lists::proofs::Sorts::shift_end, lists::proofs::Sorts::shift_past, lists::proofs::Sorts::stops_first))]
 fn insert_crossing(edges: &mut [usize], at: &mut [f64], m: usize, x: f64, e: usize)
     requires { (m < length edges.old) × (m < length at.old) }
     ensures { (take (m + 1) edges.new ≡ insert_at (slot (λ k. spec.goes_before x e (entry at.old k) (get_or edges.old k 0)) m) e (take m edges.old))
         × (take (m + 1) at.new ≡ insert_at (slot (λ k. spec.goes_before x e (entry at.old k) (get_or edges.old k 0)) m) x (take m at.old))
         × (drop (m + 1) edges.new ≡ drop (m + 1) edges.old) }
 {
-    let mut k = m;
-    while k > 0 {
-        let left_x = at[k - 1];
-        let left = edges[k - 1];
+    for k in (0..m).rev() {
+        let left_x = at[k];
+        let left = edges[k];
         if !goes_before(x, e, left_x, left) {
-            at[k] = x;
-            edges[k] = e;
+            at[k + 1] = x;
+            edges[k + 1] = e;
             return;
         }
-        at[k] = left_x;
-        edges[k] = left;
-        k -= 1;
+        at[k + 1] = left_x;
+        edges[k + 1] = left;
     }
     at[0] = x;
     edges[0] = e;

@@ -2,29 +2,15 @@
 ghost use Rattle.std.specs.Prelude.{◌+◌, ◌-◌, ◌*◌, ◌≤◌, ◌<◌, ◌≡◌, [], ◌∷◌, length, take, drop};
 ghost use Rattle.std.specs.Float.Ieee.{lt};
 ghost use Rattle.lists.specs.Answer.{map_answer};
-ghost use Rattle.lists.specs.Lists.{Below, first, put};
+ghost use Rattle.lists.specs.Lists.{Below, put};
 ghost use Rattle.binary64.specs.Constants.{zero64};
+ghost use Rattle.openrdson_core.specs.Answers.{answer};
 ghost use Rattle.meshing.specs.Triangles.{corners};
 ghost use Rattle.meshing.specs.Clipping.{triangle_at, without, clip};
 ghost use Rattle.meshing.specs.Ears as spec;
-ghost use Rattle.meshing.specs.Answers.{ear_answer, cut_answer};
 
 use crate::ring::{next_place, point_at, prev_place};
-use openrdson_core::Point;
-
-// The place of an ear in a walk, if it has one.
-#[derive(Clone, Copy)]
-pub enum Ear {
-    At(usize),
-    Nowhere,
-}
-
-// Whether all ears could be cut.
-#[derive(Clone, Copy)]
-pub enum Cut {
-    Done,
-    Stalled,
-}
+use openrdson_core::{Point, Refusal};
 
 // On which side of the line from a to b the point p lies.
 fn side(p: Point, a: Point, b: Point) -> f64
@@ -34,6 +20,7 @@ fn side(p: Point, a: Point, b: Point) -> f64
 }
 
 // Whether p lies inside or on the triangle a b c. Most points lie beyond c a and before a b, so two sides often tell.
+#[tactic(auto, using(crate::proofs::EarLaws::beyond, crate::proofs::EarLaws::by_sides))]
 fn point_in_triangle(p: Point, a: Point, b: Point, c: Point) -> bool
     ensures { result ≡ spec.in_triangle p a b c }
 {
@@ -56,6 +43,7 @@ fn turns_left(a: Point, b: Point, c: Point) -> bool
 }
 
 // Whether vertex j is none of a, b and c, and lies inside or on their triangle.
+#[tactic(auto, unfolding(crate::specs::Ears::blocks))]
 fn is_blocking(xs: &[f64], ys: &[f64], a: usize, b: usize, c: usize, j: usize) -> bool
     requires { (length ys.now ≡ length xs.now) × (a < length xs.now) × (b < length xs.now) × (c < length xs.now) × (j < length xs.now) }
     ensures { result ≡ spec.blocks xs.now ys.now a b c j }
@@ -71,54 +59,69 @@ fn is_blocking(xs: &[f64], ys: &[f64], a: usize, b: usize, c: usize, j: usize) -
     !((j == a) | (j == b) | (j == c))
 }
 
-// The first ear from the walk's start on. The inner scan stops at a vertex that lies in the triangle; both loops end at the first ear.
-fn first_ear(xs: &[f64], ys: &[f64], walk: &[usize]) -> Ear
-    requires { (length ys.now ≡ length xs.now) × Below (length xs.now) walk.now }
-    ensures { ear_answer result ≡ first (spec.is_ear xs.now ys.now walk.now) (length walk.now) 0 }
+// Whether no vertex of the walk blocks the triangle a b c. The scan ends at the first that does.
+#[tactic(auto, using(lists::proofs::Scans::all_start, lists::proofs::Scans::all_more, lists::proofs::Places::below_at), unfolding(crate::specs::Ears::is_clear))]
+fn is_clear(xs: &[f64], ys: &[f64], walk: &[usize], a: usize, b: usize, c: usize) -> bool
+    requires same { length ys.now ≡ length xs.now }
+    requires walk { Below (length xs.now) walk.now }
+    requires a { a < length xs.now }
+    requires b { b < length xs.now }
+    requires c { c < length xs.now }
+    ensures { result ≡ spec.is_clear xs.now ys.now walk.now a b c }
+{
+    for &j in walk {
+        if is_blocking(xs, ys, a, b, c, j) {
+            return false;
+        }
+    }
+    true
+}
+
+// Whether the vertex at place i of a walk is an ear: its corner turns left, and no other vertex blocks it.
+#[tactic(auto, using(lists::proofs::Places::below_at), unfolding(crate::specs::Ears::is_ear_of))]
+fn is_ear(xs: &[f64], ys: &[f64], walk: &[usize], i: usize) -> bool
+    requires same { length ys.now ≡ length xs.now }
+    requires walk { Below (length xs.now) walk.now }
+    requires place { i < length walk.now }
+    ensures { result ≡ spec.is_ear xs.now ys.now walk.now i }
 {
     let m = walk.len();
-    let mut i = 0;
-    'search: while i < m {
-        let a = walk[prev_place(m, i)];
-        let b = walk[i];
-        let c = walk[next_place(m, i)];
-        if turns_left(
-            point_at(xs, ys, a),
-            point_at(xs, ys, b),
-            point_at(xs, ys, c),
-        ) {
-            let mut j = 0;
-            loop {
-                if j == m {
-                    break 'search;
-                }
-                if is_blocking(xs, ys, a, b, c, walk[j]) {
-                    break;
-                }
-                j += 1;
-            }
+    let a = walk[prev_place(m, i)];
+    let b = walk[i];
+    let c = walk[next_place(m, i)];
+    turns_left(
+        point_at(xs, ys, a),
+        point_at(xs, ys, b),
+        point_at(xs, ys, c),
+    ) && is_clear(xs, ys, walk, a, b, c)
+}
+
+// The place of the first ear from the walk's start on.
+#[tactic(auto, using(lists::proofs::Searches::search_start, lists::proofs::Searches::search_more, lists::proofs::Searches::search_found, lists::proofs::Searches::search_end))]
+fn first_ear(xs: &[f64], ys: &[f64], walk: &[usize]) -> Option<usize>
+    requires same { length ys.now ≡ length xs.now }
+    requires walk { Below (length xs.now) walk.now }
+    ensures { result ≡ spec.first_ear xs.now ys.now walk.now }
+{
+    for i in 0..walk.len() {
+        if is_ear(xs, ys, walk, i) {
+            return Some(i);
         }
-        i += 1;
     }
-    if i < m {
-        return Ear::At(i);
-    }
-    Ear::Nowhere
+    None
 }
 
 // Takes place i out of a walk: those before it move one up, and the walk begins one later. The search has gone over them, so this costs no more.
+#[tactic(auto, using(crate::proofs::ClipLaws::moved_up))]
 fn remove_at(walk: &mut [usize], i: usize)
     requires { i < length walk.old }
     ensures { drop 1 walk.new ≡ without walk.old i }
 {
-    let mut k = i;
-    while k > 0 {
-        walk[k] = walk[k - 1];
-        k -= 1;
-    }
+    walk.copy_within(..i, 1);
 }
 
 // Writes a triangle's corners from place t on.
+#[tactic(auto, using(lists::proofs::Fills::put_three))]
 fn put_triangle(out: &mut [u32], t: usize, a: usize, b: usize, c: usize)
     requires { (t + 3 ≤ length out.old) × (a < 512) × (b < 512) × (c < 512) }
     ensures { out.new ≡ put out.old t (a ∷ b ∷ c ∷ []) }
@@ -128,31 +131,23 @@ fn put_triangle(out: &mut [u32], t: usize, a: usize, b: usize, c: usize)
     out[t + 2] = c as u32;
 }
 
-// Cuts ears off a walk until three vertices remain, and writes the corners of all triangles. The walk is used up. For callers whose walk is of a ring's vertices and
-// has three or more, and who have room for the corners.
-pub fn clip_walk(xs: &[f64], ys: &[f64], walk: &mut [usize], out: &mut [u32]) -> Cut
+// Cuts ears off a walk until three vertices remain, and writes the corners of all triangles; 4 where there is no ear. The walk is used up. For callers
+// whose walk is of a ring's vertices and has three or more, and who have room for the corners.
+pub fn clip_walk(xs: &[f64], ys: &[f64], walk: &mut [usize], out: &mut [u32]) -> Result<(), Refusal>
     requires { (length ys.now ≡ length xs.now) × (length xs.now ≤ 512) × (3 ≤ length walk.old) × Below (length xs.now) walk.old × ((length walk.old - 2) * 3 ≤ length out.old) }
-    ensures { cut_answer result (take ((length walk.old - 2) * 3) out.new) ≡ map_answer corners (clip (spec.is_ear xs.now ys.now) walk.old) }
+    ensures { map_answer (λ _. take ((length walk.old - 2) * 3) out.new) (answer result) ≡ map_answer corners (clip (spec.is_ear xs.now ys.now) walk.old) }
 {
-    let n = walk.len();
-    let mut at = 0;
-    while at + 3 < n {
-        let ear = first_ear(xs, ys, &walk[at..]);
-        match ear {
-            Ear::Nowhere => {
-                return Cut::Stalled;
-            }
-            Ear::At(i) => {
-                cut_ear(&mut walk[at..], i, out, at * 3);
-            }
-        }
-        at += 1;
+    let last = walk.len() - 3;
+    for at in 0..last {
+        let i = first_ear(xs, ys, &walk[at..]).ok_or(Refusal::ClippingStalled)?;
+        cut_ear(&mut walk[at..], i, out, at * 3);
     }
-    put_triangle(out, at * 3, walk[at], walk[at + 1], walk[at + 2]);
-    Cut::Done
+    put_triangle(out, last * 3, walk[last], walk[last + 1], walk[last + 2]);
+    Ok(())
 }
 
 // Writes the triangle of the ear at place i from place t on, and takes it out of the walk.
+#[tactic(auto, using(lists::proofs::Places::below_at, crate::proofs::ClipLaws::cut_written))]
 fn cut_ear(walk: &mut [usize], i: usize, out: &mut [u32], t: usize)
     requires { (i < length walk.old) × Below 512 walk.old × (t + 3 ≤ length out.old) }
     ensures { (drop 1 walk.new ≡ without walk.old i) × (out.new ≡ put out.old t (corners (triangle_at walk.old i ∷ []))) }

@@ -1,9 +1,12 @@
 // The nodes and hexes of a box, written into lent lists.
-ghost use Rattle.std.specs.Prelude.{◌≡◌, [], ◌∷◌, ◌+◌, ◌*◌, ◌≤◌, length};
+ghost use Rattle.std.specs.Prelude.{◌≡◌, ◌+◌, ◌*◌, ◌≤◌, length};
 ghost use Rattle.lists.specs.Lists.{put, runs, elems};
 ghost use Rattle.binary64.specs.Numbers.{◌⊖◌, ◌⊘◌};
 ghost use Rattle.meshing.specs.Cells.{real, axis_at};
 ghost use Rattle.meshing.specs.Grid.{plane, grid, grid_nodes, grid_cells, hex_at, hex_places};
+
+use crate::cells::{axis_step, step_at};
+use crate::writes::write_eight;
 
 // Writes the nodes of a box from place `at` on, x fastest, then y, then z. For callers that have found room in the three lists.
 pub fn write_nodes(
@@ -31,13 +34,10 @@ pub fn write_nodes(
     let y_step = axis_step(y0, y1, ny);
     let z_step = axis_step(z0, z1, nz);
     let w = (nx + 1) * (ny + 1);
-    let mut p = at;
-    let mut k = 0;
-    while k <= nz {
-        let z = axis_at(z0, z1, z_step, nz, k);
+    for k in 0..nz + 1 {
+        let z = step_at(z0, z1, z_step, nz, k);
+        let p = at + k * w;
         node_plane(xs, ys, zs, p, x0, x1, x_step, nx, y0, y1, y_step, ny, z);
-        p += w;
-        k += 1;
     }
 }
 
@@ -64,13 +64,9 @@ fn node_plane(
         × (zs.new ≡ put zs.old at (plane nx ny (λ i j. z))) }
 {
     let w = nx + 1;
-    let mut p = at;
-    let mut j = 0;
-    while j <= ny {
-        let y = axis_at(y0, y1, y_step, ny, j);
-        node_row(xs, ys, zs, p, x0, x1, x_step, nx, y, z);
-        p += w;
-        j += 1;
+    for j in 0..ny + 1 {
+        let y = step_at(y0, y1, y_step, ny, j);
+        node_row(xs, ys, zs, at + j * w, x0, x1, x_step, nx, y, z);
     }
 }
 
@@ -93,40 +89,17 @@ fn node_row(
         × (ys.new ≡ put ys.old at (elems (nx + 1) (λ i. y)))
         × (zs.new ≡ put zs.old at (elems (nx + 1) (λ i. z))) }
 {
-    let mut i = 0;
-    while i < nx {
+    for i in 0..nx {
         let p = at + i;
         let place = i as u32;
         xs[p] = x0 + step * (place as f64);
         ys[p] = y;
         zs[p] = z;
-        i += 1;
     }
     let last = at + nx;
     xs[last] = x1;
     ys[last] = y;
     zs[last] = z;
-}
-
-// The coordinate at place i of an axis of n cells, each a step long; the last is exactly high.
-fn axis_at(low: f64, high: f64, step: f64, n: usize, i: usize) -> f64
-    requires { (i ≤ n) × (n ≤ 4096) × (step ≡ (high ⊖ low) ⊘ real n) }
-    ensures { result ≡ axis_at low high n i }
-{
-    if i == n {
-        return high;
-    }
-    let place = i as u32;
-    low + step * (place as f64)
-}
-
-// How long a cell is on an axis of n cells.
-fn axis_step(low: f64, high: f64, n: usize) -> f64
-    requires { n ≤ 4096 }
-    ensures { result ≡ (high ⊖ low) ⊘ real n }
-{
-    let cells = n as u32;
-    (high - low) / (cells as f64)
 }
 
 // Writes the node places of a box's hexes from place `at` on; its first node has the number `base`. For callers that have found room for
@@ -138,14 +111,8 @@ pub fn write_hexes(places: &mut [u32], at: usize, base: usize, nx: usize, ny: us
 {
     let up = (nx + 1) * (ny + 1);
     let w = ny * (nx * 8);
-    let mut p = at;
-    let mut a = base;
-    let mut k = 0;
-    while k < nz {
-        hex_plane(places, p, a, nx, ny);
-        p += w;
-        a += up;
-        k += 1;
+    for k in 0..nz {
+        hex_plane(places, at + k * w, base + k * up, nx, ny);
     }
 }
 
@@ -157,14 +124,8 @@ fn hex_plane(places: &mut [u32], at: usize, a: usize, nx: usize, ny: usize)
 {
     let back = nx + 1;
     let w = nx * 8;
-    let mut p = at;
-    let mut b = a;
-    let mut j = 0;
-    while j < ny {
-        hex_row(places, p, b, nx, ny);
-        p += w;
-        b += back;
-        j += 1;
+    for j in 0..ny {
+        hex_row(places, at + j * w, a + j * back, nx, ny);
     }
 }
 
@@ -176,10 +137,8 @@ fn hex_row(places: &mut [u32], at: usize, first: usize, nx: usize, ny: usize)
 {
     let back = (nx + 1) as u32;
     let up = ((nx + 1) * (ny + 1)) as u32;
-    let mut p = at;
-    let mut a = first as u32;
-    let mut i = 0;
-    while i < nx {
+    for i in 0..nx {
+        let a = (first + i) as u32;
         let b = a + 1;
         let c = b + back;
         let d = a + back;
@@ -187,35 +146,6 @@ fn hex_row(places: &mut [u32], at: usize, first: usize, nx: usize, ny: usize)
         let f = b + up;
         let g = c + up;
         let h = d + up;
-        write_eight(places, p, a, b, c, d, e, f, g, h);
-        p += 8;
-        a += 1;
-        i += 1;
+        write_eight(places, at + 8 * i, [a, b, c, d, e, f, g, h]);
     }
-}
-
-// Writes the eight node places of an element. For callers that have found room for them.
-pub fn write_eight(
-    places: &mut [u32],
-    at: usize,
-    a: u32,
-    b: u32,
-    c: u32,
-    d: u32,
-    e: u32,
-    f: u32,
-    g: u32,
-    h: u32,
-)
-    requires { at + 8 ≤ length places.old }
-    ensures { places.new ≡ put places.old at (a ∷ b ∷ c ∷ d ∷ e ∷ f ∷ g ∷ h ∷ []) }
-{
-    places[at] = a;
-    places[at + 1] = b;
-    places[at + 2] = c;
-    places[at + 3] = d;
-    places[at + 4] = e;
-    places[at + 5] = f;
-    places[at + 6] = g;
-    places[at + 7] = h;
 }

@@ -11,12 +11,9 @@ pub fn level_list(ys: &[f64], out: &mut [f64]) -> usize
     requires { (length ys.now ≤ length out.old) × (all_of (at_most 20) ys.now ≡ true) }
     ensures { (take result out.new ≡ spec.levels ys.now) × (result ≤ length ys.now) }
 {
-    let n = ys.len();
     let mut count = 0;
-    let mut i = 0;
-    while i < n {
+    for i in 0..ys.len() {
         count = add_level(out, count, ys[i]);
-        i += 1;
     }
     drop_close(out, count)
 }
@@ -27,10 +24,8 @@ fn add_level(l: &mut [f64], m: usize, y: f64) -> usize
     ensures { spec.LevelsAlike (take result l.new) (insert_by lt y (take m l.old)) × (all_of (at_most 20) (take result l.new) ≡ true) × (result ≤ m + 1) }
 {
     let k = level_slot(&l[..m], y);
-    if k > 0 {
-        if l[k - 1] == y {
-            return m;
-        }
+    if k > 0 && l[k - 1] == y {
+        return m;
     }
     insert_level(l, m, k, y);
     m + 1
@@ -40,14 +35,12 @@ fn add_level(l: &mut [f64], m: usize, y: f64) -> usize
 fn level_slot(l: &[f64], y: f64) -> usize
     ensures { (result ≡ slot (λ k. lt y (entry l.now k)) (length l.now)) × (result ≤ length l.now) }
 {
-    let mut k = l.len();
-    while k > 0 {
-        if !(y < l[k - 1]) {
-            return k;
+    for k in (0..l.len()).rev() {
+        if !(y < l[k]) {
+            return k + 1;
         }
-        k -= 1;
     }
-    k
+    0
 }
 
 // Puts y at place k of the first m of l; those from k on move one to the right.
@@ -55,10 +48,8 @@ fn insert_level(l: &mut [f64], m: usize, k: usize, y: f64)
     requires { (k ≤ m) × (m < length l.old) }
     ensures { take (m + 1) l.new ≡ insert_at k y (take m l.old) }
 {
-    let mut j = m;
-    while k < j {
-        l[j] = l[j - 1];
-        j -= 1;
+    for j in (k..m).rev() {
+        l[j + 1] = l[j];
     }
     l[k] = y;
 }
@@ -73,15 +64,13 @@ fn drop_close(l: &mut [f64], m: usize) -> usize
     }
     let mut last = l[0];
     let mut count = 1;
-    let mut i = 1;
-    while i < m {
+    for i in 1..m {
         let y = l[i];
         if !(binary64::abs(y - last) < 1e-15) {
             l[count] = y;
             count += 1;
             last = y;
         }
-        i += 1;
     }
     count
 }

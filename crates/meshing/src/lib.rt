@@ -20,12 +20,12 @@ mod weld;
 mod whole;
 mod writes;
 
-pub use boxes::{Meshed, mesh_box};
-pub use cells::{Counted, MeshConfig, axis_coordinate, cell_count};
+pub use boxes::mesh_box;
+pub use cells::{MeshConfig, axis_coordinate, cell_count};
 pub use model::{mesh_model, mesh_model_with_options};
 pub use prism::mesh_prism;
 pub use region::mesh_region;
-pub use ring::{Cleaned, dedup_ring};
-pub use triangulate::{Triangulated, triangulate_polygon};
+pub use ring::dedup_ring;
+pub use triangulate::{Triangulation, triangulate_polygon};
 pub use volume::mesh_volume;
 pub use weld::weld_nodes;

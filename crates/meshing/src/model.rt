@@ -3,16 +3,15 @@ ghost use Rattle.std.specs.Prelude.{◌≡◌, true, ◌≤◌, ◌<◌, length}
 ghost use Rattle.lists.specs.Answer.{given, left, status};
 ghost use Rattle.lists.specs.Lists.{all_of};
 ghost use Rattle.openrdson_core.specs.Mesh.{the_mesh};
-ghost use Rattle.openrdson_core.specs.Answers.{check_answer};
+ghost use Rattle.openrdson_core.specs.Answers.{answer};
 ghost use Rattle.geometry.specs.Regions.{the_regions, Even};
-ghost use Rattle.meshing.specs.Added.{Adds, meshed_answer};
+ghost use Rattle.meshing.specs.Added.{Adds};
 ghost use Rattle.meshing.specs.Models as spec;
 
-use crate::boxes::Meshed;
 use crate::cells::MeshConfig;
 use crate::region::mesh_region;
-use geometry::{Built, are_regions_even, region_at};
-use openrdson_core::{Check, Counts, Refusal, counts_within, lists_parallel};
+use geometry::{are_regions_even, region_at};
+use openrdson_core::{Counts, Refusal, counts_within, lists_parallel};
 
 // The cell sizes of a material: those of the last override that names it, or else the default.
 fn config_for(
@@ -26,15 +25,13 @@ fn config_for(
     ensures { result ≡ spec.config_for (spec.the_overrides materials.now laterals.now verticals.now) config material }
 {
     let mut found = config;
-    let mut i = 0;
-    while i < materials.len() {
+    for i in 0..materials.len() {
         if materials[i] == material {
             found = MeshConfig {
                 lateral_cell: laterals[i],
                 z_cell: verticals[i],
             };
         }
-        i += 1;
     }
     found
 }
@@ -43,15 +40,9 @@ fn config_for(
 fn are_named(materials: &[u32]) -> bool
     ensures { result ≡ all_of spec.named materials.now }
 {
-    let mut i = 0;
-    while i < materials.len() {
-        let material = materials[i];
-        if !((1 <= material) & (material <= 768)) {
-            return false;
-        }
-        i += 1;
-    }
-    true
+    materials
+        .iter()
+        .all(|material| (1 <= *material) & (*material <= 768))
 }
 
 // Meshes region i of a region list, whose elements carry its place. For callers that have found the lists equally long and row i in them.
@@ -82,11 +73,11 @@ fn mesh_row(
     kinds: &mut [u8],
     places: &mut [u32],
     regions: &mut [u32],
-) -> Meshed
+) -> Result<Counts, Refusal>
     requires { Even (the_regions row_kinds.now min_x.now min_y.now max_x.now max_y.now z_bottom.now z_top.now starts.now row_counts.now row_materials.now nets.now polygons.now) × (i < length row_kinds.now) × (i < 4096) × (length laterals.now ≡ length materials.now) × (length verticals.now ≡ length materials.now) }
     ensures { Adds (spec.row_part (the_regions row_kinds.now min_x.now min_y.now max_x.now max_y.now z_bottom.now z_top.now starts.now row_counts.now row_materials.now nets.now polygons.now) point_x.now point_y.now (spec.the_overrides materials.now laterals.now verticals.now) config i counts (the_mesh xs.old ys.old zs.old kinds.old places.old regions.old)) counts i (the_mesh xs.old ys.old zs.old kinds.old places.old regions.old) (the_mesh xs.new ys.new zs.new kinds.new places.new regions.new) result }
 {
-    let built = region_at(
+    let region = region_at(
         row_kinds,
         min_x,
         min_y,
@@ -101,38 +92,12 @@ fn mesh_row(
         polygons,
         point_x.len(),
         i,
-    );
-    match built {
-        Built::Refused(why) => Meshed::Refused(why),
-        Built::Region(region) => {
-            let material = region.material_id.0;
-            let cells = config_for(materials, laterals, verticals, config, material);
-            mesh_region(
-                region, point_x, point_y, i as u32, cells, counts, xs, ys, zs, kinds, places,
-                regions,
-            )
-        }
-    }
-}
-
-// The diagnostic of a region: 0, or the number of its refusal.
-fn diagnostic(meshed: Meshed) -> u32
-    ensures { result ≡ status (meshed_answer meshed) }
-{
-    match meshed {
-        Meshed::Refused(why) => why.number(),
-        Meshed::Done(_) => 0,
-    }
-}
-
-// The counts of the mesh after a region: those before where it is refused.
-fn counts_after(meshed: Meshed, counts: Counts) -> Counts
-    ensures { result ≡ left (meshed_answer meshed) counts }
-{
-    match meshed {
-        Meshed::Refused(_) => counts,
-        Meshed::Done(grown) => grown,
-    }
+    )?;
+    let material = region.material_id.0;
+    let cells = config_for(materials, laterals, verticals, config, material);
+    mesh_region(
+        region, point_x, point_y, i as u32, cells, counts, xs, ys, zs, kinds, places, regions,
+    )
 }
 
 // Meshes every region of a region list, and gives the counts. For callers that have judged the job.
@@ -167,10 +132,8 @@ fn mesh_rows(
     requires { Even (the_regions row_kinds.now min_x.now min_y.now max_x.now max_y.now z_bottom.now z_top.now starts.now row_counts.now row_materials.now nets.now polygons.now) × (length row_kinds.now ≤ 4096) × (length row_kinds.now ≤ length diagnostics.old) × (length laterals.now ≡ length materials.now) × (length verticals.now ≡ length materials.now) }
     ensures { spec.RunAs (spec.run_to (the_regions row_kinds.now min_x.now min_y.now max_x.now max_y.now z_bottom.now z_top.now starts.now row_counts.now row_materials.now nets.now polygons.now) point_x.now point_y.now (spec.the_overrides materials.now laterals.now verticals.now) config counts (the_mesh xs.old ys.old zs.old kinds.old places.old regions.old) (length row_kinds.now)) result (the_mesh xs.new ys.new zs.new kinds.new places.new regions.new) diagnostics.old diagnostics.new }
 {
-    let n = row_kinds.len();
     let mut so_far = counts;
-    let mut i = 0;
-    while i < n {
+    for i in 0..row_kinds.len() {
         let meshed = mesh_row(
             row_kinds,
             min_x,
@@ -199,15 +162,18 @@ fn mesh_rows(
             places,
             regions,
         );
-        diagnostics[i] = diagnostic(meshed);
-        so_far = counts_after(meshed, so_far);
-        i += 1;
+        so_far = meshed.unwrap_or(so_far);
+        diagnostics[i] = match meshed {
+            Ok(_) => 0,
+            Err(why) => u32::from(why),
+        };
     }
     so_far
 }
 
 // Whether a job is meshed, by what is known of its lists: 16 for the region lists, the point lists, the overrides and the mesh; 2 for so many regions,
 // points and overrides; 15 for the counts, then for an override's material; 12 for the diagnostics.
+#[tactic(auto, unfolding(crate::specs::Models::model_judged))]
 fn model_check(
     regions_even: bool,
     points_even: bool,
@@ -219,22 +185,22 @@ fn model_check(
     counts_in: bool,
     overrides_named: bool,
     diagnostics: usize,
-) -> Check
-    ensures { check_answer result ≡ spec.model_judged regions_even points_even overrides_even mesh_parallel regions points overrides counts_in overrides_named diagnostics }
+) -> Result<(), Refusal>
+    ensures { answer result ≡ spec.model_judged regions_even points_even overrides_even mesh_parallel regions points overrides counts_in overrides_named diagnostics }
 {
     if !(regions_even & points_even & overrides_even & mesh_parallel) {
-        return Check::Refused(Refusal::UnequalLists);
+        return Err(Refusal::UnequalLists);
     }
     if !((regions <= 4096) & (points <= 2097152) & (overrides <= 4096)) {
-        return Check::Refused(Refusal::ListTooLong);
+        return Err(Refusal::ListTooLong);
     }
     if !(counts_in & overrides_named) {
-        return Check::Refused(Refusal::OutsideList);
+        return Err(Refusal::OutsideList);
     }
     if !(regions <= diagnostics) {
-        return Check::Refused(Refusal::OutputTooShort);
+        return Err(Refusal::OutputTooShort);
     }
-    Check::Fine
+    Ok(())
 }
 
 // Meshes every region of a region list, with the cell sizes of the overrides, or else the default ones; a diagnostic for each region says 0 or its refusal.
@@ -266,7 +232,7 @@ pub fn mesh_model_with_options(
     places: &mut [u32],
     regions: &mut [u32],
     diagnostics: &mut [u32],
-) -> Meshed
+) -> Result<Counts, Refusal>
     ensures { spec.ModelAs (spec.mesh_model (the_regions row_kinds.now min_x.now min_y.now max_x.now max_y.now z_bottom.now z_top.now starts.now row_counts.now row_materials.now nets.now polygons.now) point_x.now point_y.now (spec.the_overrides materials.now laterals.now verticals.now) config counts (the_mesh xs.old ys.old zs.old kinds.old places.old regions.old) (length diagnostics.old)) (the_mesh xs.old ys.old zs.old kinds.old places.old regions.old) diagnostics.old result (the_mesh xs.new ys.new zs.new kinds.new places.new regions.new) diagnostics.new }
 {
     let regions_even = are_regions_even(
@@ -292,7 +258,7 @@ pub fn mesh_model_with_options(
         places.len(),
         regions.len(),
     );
-    let checked = model_check(
+    model_check(
         regions_even,
         point_x.len() == point_y.len(),
         overrides_even,
@@ -303,38 +269,35 @@ pub fn mesh_model_with_options(
         counts_within(counts, xs.len(), kinds.len()),
         are_named(materials),
         diagnostics.len(),
-    );
-    match checked {
-        Check::Refused(why) => Meshed::Refused(why),
-        Check::Fine => Meshed::Done(mesh_rows(
-            row_kinds,
-            min_x,
-            min_y,
-            max_x,
-            max_y,
-            z_bottom,
-            z_top,
-            starts,
-            row_counts,
-            row_materials,
-            nets,
-            polygons,
-            point_x,
-            point_y,
-            materials,
-            laterals,
-            verticals,
-            config,
-            counts,
-            xs,
-            ys,
-            zs,
-            kinds,
-            places,
-            regions,
-            diagnostics,
-        )),
-    }
+    )?;
+    Ok(mesh_rows(
+        row_kinds,
+        min_x,
+        min_y,
+        max_x,
+        max_y,
+        z_bottom,
+        z_top,
+        starts,
+        row_counts,
+        row_materials,
+        nets,
+        polygons,
+        point_x,
+        point_y,
+        materials,
+        laterals,
+        verticals,
+        config,
+        counts,
+        xs,
+        ys,
+        zs,
+        kinds,
+        places,
+        regions,
+        diagnostics,
+    ))
 }
 
 // The same with no override.
@@ -362,7 +325,7 @@ pub fn mesh_model(
     places: &mut [u32],
     regions: &mut [u32],
     diagnostics: &mut [u32],
-) -> Meshed
+) -> Result<Counts, Refusal>
     ensures { spec.ModelAs (spec.mesh_model (the_regions row_kinds.now min_x.now min_y.now max_x.now max_y.now z_bottom.now z_top.now starts.now row_counts.now row_materials.now nets.now polygons.now) point_x.now point_y.now spec.no_overrides config counts (the_mesh xs.old ys.old zs.old kinds.old places.old regions.old) (length diagnostics.old)) (the_mesh xs.old ys.old zs.old kinds.old places.old regions.old) diagnostics.old result (the_mesh xs.new ys.new zs.new kinds.new places.new regions.new) diagnostics.new }
 {
     let materials = [0u32; 0];

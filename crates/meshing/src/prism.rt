@@ -4,23 +4,20 @@ ghost use Rattle.lists.specs.Answer.{given, and_then};
 ghost use Rattle.lists.specs.Lists.{put, elems, joined, Below};
 ghost use Rattle.openrdson_core.specs.Points.{ring_fault};
 ghost use Rattle.openrdson_core.specs.Mesh.{the_mesh, parallel, within};
-ghost use Rattle.openrdson_core.specs.Answers.{check_answer};
+ghost use Rattle.openrdson_core.specs.Answers.{answer};
 ghost use Rattle.meshing.specs.Added.{Adds, fit_part};
 ghost use Rattle.meshing.specs.Triangles.{corners as corners_of, triples};
 ghost use Rattle.meshing.specs.Ring.{kept, gathered};
 ghost use Rattle.meshing.specs.Rectilinear.{is_rectilinear};
 ghost use Rattle.meshing.specs.Prisms as spec;
 
-use crate::boxes::Meshed;
-use crate::ears::Cut;
-use crate::grid::write_eight;
 use crate::rectilinear::ring_is_rectilinear;
-use crate::ring::{gather_into, is_clean, kept_places};
+use crate::ring::{clean_into, is_clean};
 use crate::scanline::mesh_scanline;
 use crate::triangulate::clip_ring;
-use crate::writes::{copy_reals, fill_bytes, fill_reals, fill_words};
+use crate::writes::{copy, fill, write_eight};
 use openrdson_core::{
-    Check, Counts, Material, Refusal, UNUSED, counts_within, has_room, lists_parallel, ring_check,
+    Counts, Material, Refusal, UNUSED, counts_within, has_room, lists_parallel, ring_check,
 };
 
 // Writes the node places of the prisms on triangles, from place `at` on, where the n bottom nodes start at `base`.
@@ -30,30 +27,27 @@ fn write_prisms(places: &mut [u32], at: usize, base: usize, n: usize, corners: &
 {
     let bottom = base as u32;
     let top = (base + n) as u32;
-    let mut p = at;
-    let mut i = 0;
-    while i + 2 < corners.len() {
-        let a = corners[i];
-        let b = corners[i + 1];
-        let c = corners[i + 2];
+    let (triangles, _) = corners.as_chunks::<3>();
+    for (i, &[a, b, c]) in triangles.iter().enumerate() {
         write_eight(
             places,
-            p,
-            bottom + a,
-            bottom + b,
-            bottom + c,
-            top + a,
-            top + b,
-            top + c,
-            UNUSED,
-            UNUSED,
+            at + i * 8,
+            [
+                bottom + a,
+                bottom + b,
+                bottom + c,
+                top + a,
+                top + b,
+                top + c,
+                UNUSED,
+                UNUSED,
+            ],
         );
-        p += 8;
-        i += 3;
     }
 }
 
 // Meshes a ring by its triangles, where there is room: bottom nodes 0 to n - 1, top nodes n to 2n - 1; 12.
+#[tactic(auto, using(crate::proofs::PrismLaws::tris_no_nodes, crate::proofs::PrismLaws::tris_no_elements, crate::proofs::PrismLaws::room_in, crate::proofs::PrismLaws::triples_many, crate::proofs::BoxWrites::refused_adds))]
 fn mesh_tris(
     xs: &[f64],
     ys: &[f64],
@@ -68,7 +62,7 @@ fn mesh_tris(
     kinds: &mut [u8],
     places: &mut [u32],
     regions: &mut [u32],
-) -> Meshed
+) -> Result<Counts, Refusal>
     requires ring { (length ys.now ≡ length xs.now) × (length xs.now ≤ 512) × (corners_of (triples corners.now) ≡ corners.now) × Below (length xs.now) corners.now × (length corners.now ≤ 1530) }
     requires lists { (parallel (the_mesh nx.old ny.old nz.old kinds.old places.old regions.old) ≡ true) × (within counts (the_mesh nx.old ny.old nz.old kinds.old places.old regions.old) ≡ true) }
     ensures { Adds (fit_part counts (the_mesh nx.old ny.old nz.old kinds.old places.old regions.old) (spec.triangles_part counts.nodes z_bottom z_top xs.now ys.now (triples corners.now))) counts region (the_mesh nx.old ny.old nz.old kinds.old places.old regions.old) (the_mesh nx.new ny.new nz.new kinds.new places.new regions.new) result }
@@ -76,36 +70,35 @@ fn mesh_tris(
     let n = xs.len();
     let triangles = corners.len() / 3;
     if !has_room(n + n, counts.nodes, nx.len()) {
-        return Meshed::Refused(Refusal::OutputTooShort);
+        return Err(Refusal::OutputTooShort);
     }
     if !has_room(triangles, counts.elements, kinds.len()) {
-        return Meshed::Refused(Refusal::OutputTooShort);
+        return Err(Refusal::OutputTooShort);
     }
     let bottom = counts.nodes;
     let top = counts.nodes + n;
-    copy_reals(xs, nx, bottom);
-    copy_reals(xs, nx, top);
-    copy_reals(ys, ny, bottom);
-    copy_reals(ys, ny, top);
-    fill_reals(nz, bottom, n, z_bottom);
-    fill_reals(nz, top, n, z_top);
-    fill_bytes(kinds, counts.elements, triangles, 2);
+    copy(xs, nx, bottom);
+    copy(xs, nx, top);
+    copy(ys, ny, bottom);
+    copy(ys, ny, top);
+    fill(nz, bottom, n, z_bottom);
+    fill(nz, top, n, z_top);
+    fill(kinds, counts.elements, triangles, 2);
     write_prisms(places, 8 * counts.elements, bottom, n, corners);
-    fill_words(regions, counts.elements, triangles, region);
-    Meshed::Done(Counts {
+    fill(regions, counts.elements, triangles, region);
+    Ok(Counts {
         nodes: top + n,
         elements: counts.elements + triangles,
     })
 }
 
 // Meshes a ring that is not rectilinear, cleaned once, by the triangles of the ring cleaned again; or by the scanline where clipping refuses.
-// `corners` is room to work in.
-fn mesh_cut(
+// The triangles have N corners or fewer.
+fn mesh_cut<const N: usize>(
     xs: &[f64],
     ys: &[f64],
     ring_x: &[f64],
     ring_y: &[f64],
-    corners: &mut [u32],
     z_bottom: f64,
     z_top: f64,
     region: u32,
@@ -116,19 +109,19 @@ fn mesh_cut(
     kinds: &mut [u8],
     places: &mut [u32],
     regions: &mut [u32],
-) -> Meshed
-    requires ring { (ring_fault xs.now ys.now ≡ given tt) × (is_rectilinear xs.now ys.now ≡ false) × (ring_x.now ≡ gathered xs.now (kept xs.now ys.now)) × (ring_y.now ≡ gathered ys.now (kept xs.now ys.now)) × (3 ≤ length ring_x.now) × ((length ring_x.now - 2) * 3 ≤ length corners.old) }
+) -> Result<Counts, Refusal>
+    requires ring { (ring_fault xs.now ys.now ≡ given tt) × (is_rectilinear xs.now ys.now ≡ false) × (ring_x.now ≡ gathered xs.now (kept xs.now ys.now)) × (ring_y.now ≡ gathered ys.now (kept xs.now ys.now)) × (3 ≤ length ring_x.now) × ((length ring_x.now - 2) * 3 ≤ N) × (N ≤ 1530) }
     requires lists { (parallel (the_mesh nx.old ny.old nz.old kinds.old places.old regions.old) ≡ true) × (within counts (the_mesh nx.old ny.old nz.old kinds.old places.old regions.old) ≡ true) }
     ensures { Adds (and_then (spec.ring_part counts.nodes z_bottom z_top xs.now ys.now) (fit_part counts (the_mesh nx.old ny.old nz.old kinds.old places.old regions.old))) counts region (the_mesh nx.old ny.old nz.old kinds.old places.old regions.old) (the_mesh nx.new ny.new nz.new kinds.new places.new regions.new) result }
 {
-    let cut = clip_ring(ring_x, ring_y, corners);
-    match cut {
-        Cut::Stalled => mesh_scanline(
+    let mut corners = [0u32; N];
+    match clip_ring(ring_x, ring_y, &mut corners) {
+        Err(_) => mesh_scanline(
             xs, // cleaned once
             ys, // cleaned once
             z_bottom, z_top, region, counts, nx, ny, nz, kinds, places, regions,
         ),
-        Cut::Done => {
+        Ok(()) => {
             let used = (ring_x.len() - 2) * 3;
             mesh_tris(
                 ring_x,
@@ -165,7 +158,7 @@ fn mesh_again(
     kinds: &mut [u8],
     places: &mut [u32],
     regions: &mut [u32],
-) -> Meshed
+) -> Result<Counts, Refusal>
     requires ring { (ring_fault xs.now ys.now ≡ given tt) × (is_rectilinear xs.now ys.now ≡ false) × (ring_x.now ≡ gathered xs.now (kept xs.now ys.now)) × (ring_y.now ≡ gathered ys.now (kept xs.now ys.now)) }
     requires lists { (parallel (the_mesh nx.old ny.old nz.old kinds.old places.old regions.old) ≡ true) × (within counts (the_mesh nx.old ny.old nz.old kinds.old places.old regions.old) ≡ true) }
     ensures { Adds (and_then (spec.ring_part counts.nodes z_bottom z_top xs.now ys.now) (fit_part counts (the_mesh nx.old ny.old nz.old kinds.old places.old regions.old))) counts region (the_mesh nx.old ny.old nz.old kinds.old places.old regions.old) (the_mesh nx.new ny.new nz.new kinds.new places.new regions.new) result }
@@ -177,29 +170,13 @@ fn mesh_again(
         );
     }
     if n <= 32 {
-        let mut few = [0u32; 90];
-        return mesh_cut(
-            xs, ys, ring_x, ring_y, &mut few, z_bottom, z_top, region, counts, nx, ny, nz, kinds,
-            places, regions,
+        return mesh_cut::<90>(
+            xs, ys, ring_x, ring_y, z_bottom, z_top, region, counts, nx, ny, nz, kinds, places,
+            regions,
         );
     }
-    let mut corners = [0u32; 1530];
-    mesh_cut(
-        xs,
-        ys,
-        ring_x,
-        ring_y,
-        &mut corners,
-        z_bottom,
-        z_top,
-        region,
-        counts,
-        nx,
-        ny,
-        nz,
-        kinds,
-        places,
-        regions,
+    mesh_cut::<1530>(
+        xs, ys, ring_x, ring_y, z_bottom, z_top, region, counts, nx, ny, nz, kinds, places, regions,
     )
 }
 
@@ -217,7 +194,7 @@ fn mesh_slanted(
     kinds: &mut [u8],
     places: &mut [u32],
     regions: &mut [u32],
-) -> Meshed
+) -> Result<Counts, Refusal>
     requires { (ring_fault xs.now ys.now ≡ given tt) × (is_rectilinear xs.now ys.now ≡ false) × (parallel (the_mesh nx.old ny.old nz.old kinds.old places.old regions.old) ≡ true) × (within counts (the_mesh nx.old ny.old nz.old kinds.old places.old regions.old) ≡ true) }
     ensures { Adds (and_then (spec.ring_part counts.nodes z_bottom z_top xs.now ys.now) (fit_part counts (the_mesh nx.old ny.old nz.old kinds.old places.old regions.old))) counts region (the_mesh nx.old ny.old nz.old kinds.old places.old regions.old) (the_mesh nx.new ny.new nz.new kinds.new places.new regions.new) result }
 {
@@ -226,12 +203,9 @@ fn mesh_slanted(
             xs, ys, xs, ys, z_bottom, z_top, region, counts, nx, ny, nz, kinds, places, regions,
         );
     }
-    let mut again = [0usize; 512];
     let mut ring_x = [0.0; 512];
     let mut ring_y = [0.0; 512];
-    let n = kept_places(xs, ys, &mut again);
-    gather_into(xs, &again[..n], &mut ring_x);
-    gather_into(ys, &again[..n], &mut ring_y);
+    let n = clean_into(xs, ys, &mut ring_x, &mut ring_y);
     mesh_again(
         xs,
         ys,
@@ -251,6 +225,7 @@ fn mesh_slanted(
 }
 
 // Meshes a ring, cleaned once: by the scanline if it is rectilinear.
+#[tactic(auto, using(openrdson_core::proofs::Rings::fine_ring, crate::proofs::PrismLaws::ring_scanned, crate::proofs::PrismLaws::part_adds))]
 fn mesh_ring(
     xs: &[f64],
     ys: &[f64],
@@ -264,7 +239,7 @@ fn mesh_ring(
     kinds: &mut [u8],
     places: &mut [u32],
     regions: &mut [u32],
-) -> Meshed
+) -> Result<Counts, Refusal>
     requires { (ring_fault xs.now ys.now ≡ given tt) × (parallel (the_mesh nx.old ny.old nz.old kinds.old places.old regions.old) ≡ true) × (within counts (the_mesh nx.old ny.old nz.old kinds.old places.old regions.old) ≡ true) }
     ensures { Adds (and_then (spec.ring_part counts.nodes z_bottom z_top xs.now ys.now) (fit_part counts (the_mesh nx.old ny.old nz.old kinds.old places.old regions.old))) counts region (the_mesh nx.old ny.old nz.old kinds.old places.old regions.old) (the_mesh nx.new ny.new nz.new kinds.new places.new regions.new) result }
 {
@@ -279,6 +254,7 @@ fn mesh_ring(
 }
 
 // Whether a prism is meshed, from its numbers and its part of the point lists: 16; 15 for counts, material and part; 2; 1; 8.
+#[tactic(auto, unfolding(crate::specs::Prisms::prism_judged))]
 fn prism_check(
     point_x: &[f64],
     point_y: &[f64],
@@ -294,25 +270,26 @@ fn prism_check(
     kinds: usize,
     places: usize,
     regions: usize,
-) -> Check
-    ensures { check_answer result ≡ spec.prism_judged point_x.now point_y.now z_bottom z_top start count material.0 counts xs ys zs kinds places regions }
+) -> Result<(), Refusal>
+    ensures { answer result ≡ spec.prism_judged point_x.now point_y.now z_bottom z_top start count material.0 counts xs ys zs kinds places regions }
 {
     if !lists_parallel(xs, ys, zs, kinds, places, regions) {
-        return Check::Refused(Refusal::UnequalLists);
+        return Err(Refusal::UnequalLists);
     }
     if point_x.len() != point_y.len() {
-        return Check::Refused(Refusal::UnequalLists);
+        return Err(Refusal::UnequalLists);
     }
     if !counts_within(counts, xs, kinds) {
-        return Check::Refused(Refusal::OutsideList);
+        return Err(Refusal::OutsideList);
     }
     if material.0 > 768 {
-        return Check::Refused(Refusal::OutsideList);
+        return Err(Refusal::OutsideList);
     }
     part_check(point_x, point_y, z_bottom, z_top, start, count)
 }
 
 // Of a part of point lists that are equally long, and two heights: 15, 2, 1, 8.
+#[tactic(auto, using(crate::proofs::PrismLaws::lent_ring), unfolding(crate::specs::Prisms::part_judged))]
 fn part_check(
     point_x: &[f64],
     point_y: &[f64],
@@ -320,31 +297,26 @@ fn part_check(
     z_top: f64,
     start: u32,
     count: u32,
-) -> Check
+) -> Result<(), Refusal>
     requires { length point_x.now ≡ length point_y.now }
-    ensures { check_answer result ≡ spec.part_judged point_x.now point_y.now z_bottom z_top start count }
+    ensures { answer result ≡ spec.part_judged point_x.now point_y.now z_bottom z_top start count }
 {
     let first = start as usize;
     let end = first + count as usize;
     if end > point_x.len() {
-        return Check::Refused(Refusal::OutsideList);
+        return Err(Refusal::OutsideList);
     }
     if point_x.len() > 2097152 {
-        return Check::Refused(Refusal::ListTooLong);
+        return Err(Refusal::ListTooLong);
     }
-    let checked = ring_check(&point_x[first..end], &point_y[first..end]);
-    match checked {
-        Check::Refused(why) => Check::Refused(why),
-        Check::Fine => {
-            if !(binary64::coordinate_in_range(z_bottom) & binary64::coordinate_in_range(z_top)) {
-                return Check::Refused(Refusal::NumberOutOfRange);
-            }
-            if !(z_top > z_bottom) {
-                return Check::Refused(Refusal::DegeneratePrism);
-            }
-            Check::Fine
-        }
+    ring_check(&point_x[first..end], &point_y[first..end])?;
+    if !(binary64::coordinate_in_range(z_bottom) & binary64::coordinate_in_range(z_top)) {
+        return Err(Refusal::NumberOutOfRange);
     }
+    if !(z_top > z_bottom) {
+        return Err(Refusal::DegeneratePrism);
+    }
+    Ok(())
 }
 
 // Cleans a ring that has been checked, and meshes it. A ring that is clean is not copied.
@@ -361,7 +333,7 @@ fn mesh_part(
     kinds: &mut [u8],
     places: &mut [u32],
     regions: &mut [u32],
-) -> Meshed
+) -> Result<Counts, Refusal>
     requires { (ring_fault xs.now ys.now ≡ given tt) × (parallel (the_mesh nx.old ny.old nz.old kinds.old places.old regions.old) ≡ true) × (within counts (the_mesh nx.old ny.old nz.old kinds.old places.old regions.old) ≡ true) }
     ensures { Adds (and_then (spec.prism_part counts.nodes z_bottom z_top xs.now ys.now) (fit_part counts (the_mesh nx.old ny.old nz.old kinds.old places.old regions.old))) counts region (the_mesh nx.old ny.old nz.old kinds.old places.old regions.old) (the_mesh nx.new ny.new nz.new kinds.new places.new regions.new) result }
 {
@@ -370,12 +342,9 @@ fn mesh_part(
             xs, ys, z_bottom, z_top, region, counts, nx, ny, nz, kinds, places, regions,
         );
     }
-    let mut kept = [0usize; 512];
     let mut ring_x = [0.0; 512];
     let mut ring_y = [0.0; 512];
-    let n = kept_places(xs, ys, &mut kept);
-    gather_into(xs, &kept[..n], &mut ring_x);
-    gather_into(ys, &kept[..n], &mut ring_y);
+    let n = clean_into(xs, ys, &mut ring_x, &mut ring_y);
     mesh_ring(
         &ring_x[..n],
         &ring_y[..n],
@@ -410,10 +379,10 @@ pub fn mesh_prism(
     kinds: &mut [u8],
     places: &mut [u32],
     regions: &mut [u32],
-) -> Meshed
+) -> Result<Counts, Refusal>
     ensures { Adds (spec.mesh_prism z_bottom z_top start count material.0 counts point_x.now point_y.now (the_mesh xs.old ys.old zs.old kinds.old places.old regions.old)) counts region (the_mesh xs.old ys.old zs.old kinds.old places.old regions.old) (the_mesh xs.new ys.new zs.new kinds.new places.new regions.new) result }
 {
-    let checked = prism_check(
+    prism_check(
         point_x,
         point_y,
         z_bottom,
@@ -428,26 +397,21 @@ pub fn mesh_prism(
         kinds.len(),
         places.len(),
         regions.len(),
-    );
-    match checked {
-        Check::Refused(why) => Meshed::Refused(why),
-        Check::Fine => {
-            let first = start as usize;
-            let end = first + count as usize;
-            mesh_part(
-                &point_x[first..end],
-                &point_y[first..end],
-                z_bottom,
-                z_top,
-                region,
-                counts,
-                xs,
-                ys,
-                zs,
-                kinds,
-                places,
-                regions,
-            )
-        }
-    }
+    )?;
+    let first = start as usize;
+    let end = first + count as usize;
+    mesh_part(
+        &point_x[first..end],
+        &point_y[first..end],
+        z_bottom,
+        z_top,
+        region,
+        counts,
+        xs,
+        ys,
+        zs,
+        kinds,
+        places,
+        regions,
+    )
 }

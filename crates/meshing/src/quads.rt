@@ -6,6 +6,7 @@ ghost use Rattle.meshing.specs.Scanline.{quad_xs, quad_ys, Tallied};
 ghost use Rattle.meshing.specs.Quads as spec;
 
 use crate::crossings::edge_at;
+use crate::writes::write_eight;
 
 // The x of its corners a, b, c, d, counter-clockwise, and the heights of a and b, and of c and d.
 #[derive(Clone, Copy)]
@@ -26,6 +27,7 @@ pub struct Tally {
 }
 
 // The quad between the edges l and r in the band from low to high.
+#[tactic(auto, unfolding(crate::specs::Quads::quad_of))]
 fn quad_of(xs: &[f64], ys: &[f64], low: f64, high: f64, l: usize, r: usize) -> Quad
     requires { (length ys.now ≡ length xs.now) × (l < length xs.now) × (r < length xs.now) }
     ensures { result ≡ spec.quad_of xs.now ys.now (the_band low high) l r }
@@ -41,6 +43,7 @@ fn quad_of(xs: &[f64], ys: &[f64], low: f64, high: f64, l: usize, r: usize) -> Q
 }
 
 // The computed area: half the sum of the cross products of the triangles a b c and a c d.
+#[tactic(auto, unfolding(crate::specs::Quads::quad_area))]
 fn quad_area(q: Quad) -> f64
     ensures { result ≡ spec.quad_area q }
 {
@@ -50,12 +53,14 @@ fn quad_area(q: Quad) -> f64
 }
 
 // Whether the computed area is below 1e-30 in size.
+#[tactic(auto, unfolding(crate::specs::Quads::is_flat))]
 fn is_flat(q: Quad) -> bool
     ensures { result ≡ spec.is_flat q }
 {
     binary64::abs(quad_area(q)) < 1e-30
 }
 
+#[tactic(auto, unfolding(crate::specs::Quads::quad_in))]
 fn is_in_range(q: Quad) -> bool
     ensures { result ≡ spec.quad_in q }
 {
@@ -81,14 +86,13 @@ pub fn tally_quads(xs: &[f64], ys: &[f64], low: f64, high: f64, edges: &[usize],
     requires { (length ys.now ≡ length xs.now) × Below (length xs.now) edges.now × (t.quads + length edges.now ≤ 1048576) }
     ensures { Tallied t (spec.quads_between xs.now ys.now (the_band low high) edges.now) result × (result.quads ≤ t.quads + length edges.now) }
 {
+    let (pairs, _) = edges.as_chunks::<2>();
     let mut sum = t;
-    let mut i = 0;
-    while i + 1 < edges.len() {
-        let q = quad_of(xs, ys, low, high, edges[i], edges[i + 1]);
+    for &[left, right] in pairs {
+        let q = quad_of(xs, ys, low, high, left, right);
         if !is_flat(q) {
             sum = tally_quad(sum, q);
         }
-        i += 2;
     }
     sum
 }
@@ -110,44 +114,19 @@ pub fn write_quads(
         × (ny.new ≡ put ny.old p (joined quad_ys (spec.quads_between xs.now ys.now (the_band low high) edges.now)))
         × (result ≡ p + length (joined quad_xs (spec.quads_between xs.now ys.now (the_band low high) edges.now))) }
 {
+    let (pairs, _) = edges.as_chunks::<2>();
     let mut at = p;
-    let mut i = 0;
-    while i + 1 < edges.len() {
-        let q = quad_of(xs, ys, low, high, edges[i], edges[i + 1]);
+    for &[left, right] in pairs {
+        let q = quad_of(xs, ys, low, high, left, right);
         if !is_flat(q) {
-            write_eight(nx, at, q.ax, q.bx, q.cx, q.dx, q.ax, q.bx, q.cx, q.dx);
+            write_eight(nx, at, [q.ax, q.bx, q.cx, q.dx, q.ax, q.bx, q.cx, q.dx]);
             write_eight(
-                ny, at, q.low, q.low, q.high, q.high, q.low, q.low, q.high, q.high,
+                ny,
+                at,
+                [q.low, q.low, q.high, q.high, q.low, q.low, q.high, q.high],
             );
             at += 8;
         }
-        i += 2;
     }
     at
-}
-
-// Writes eight numbers from place `at` on. For callers that have found room for them.
-pub fn write_eight(
-    l: &mut [f64],
-    at: usize,
-    a: f64,
-    b: f64,
-    c: f64,
-    d: f64,
-    e: f64,
-    f: f64,
-    g: f64,
-    h: f64,
-)
-    requires { at + 8 ≤ length l.old }
-    ensures { l.new ≡ put l.old at (a ∷ b ∷ c ∷ d ∷ e ∷ f ∷ g ∷ h ∷ []) }
-{
-    l[at] = a;
-    l[at + 1] = b;
-    l[at + 2] = c;
-    l[at + 3] = d;
-    l[at + 4] = e;
-    l[at + 5] = f;
-    l[at + 6] = g;
-    l[at + 7] = h;
 }

@@ -15,12 +15,10 @@ pub fn ring_is_rectilinear(xs: &[f64], ys: &[f64]) -> bool
         return false;
     }
     let eps = 1e-9 * binary64::larger(largest_size(xs, ys), 1.0);
-    let mut i = 0;
-    while i < n {
+    for i in 0..n {
         if is_slanted(eps, point_at(xs, ys, i), point_at(xs, ys, next_place(n, i))) {
             return false;
         }
-        i += 1;
     }
     true
 }
@@ -31,13 +29,11 @@ fn largest_size(xs: &[f64], ys: &[f64]) -> f64
     ensures { result ≡ spec.largest_size xs.now ys.now }
 {
     let mut size = 0.0;
-    let mut i = 0;
-    while i < xs.len() {
+    for i in 0..xs.len() {
         size = binary64::larger(
             binary64::larger(size, binary64::abs(xs[i])),
             binary64::abs(ys[i]),
         );
-        i += 1;
     }
     size
 }

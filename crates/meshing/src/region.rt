@@ -4,7 +4,7 @@ ghost use Rattle.openrdson_core.specs.Mesh.{the_mesh};
 ghost use Rattle.meshing.specs.Added.{Adds};
 ghost use Rattle.meshing.specs.Regions as spec;
 
-use crate::boxes::{Meshed, mesh_box};
+use crate::boxes::mesh_box;
 use crate::cells::MeshConfig;
 use crate::prism::mesh_prism;
 use openrdson_core::{Bbox, Counts, Refusal, Solid, SolidRegion};
@@ -23,7 +23,7 @@ pub fn mesh_region(
     kinds: &mut [u8],
     places: &mut [u32],
     regions: &mut [u32],
-) -> Meshed
+) -> Result<Counts, Refusal>
     ensures { Adds (spec.mesh_region region.solid region.material_id.0 config counts point_x.now point_y.now (the_mesh xs.old ys.old zs.old kinds.old places.old regions.old)) counts number (the_mesh xs.old ys.old zs.old kinds.old places.old regions.old) (the_mesh xs.new ys.new zs.new kinds.new places.new regions.new) result }
 {
     let material = region.material_id;
@@ -38,7 +38,7 @@ pub fn mesh_region(
             z_top,
         } => {
             if point_x.len() != point_y.len() {
-                return Meshed::Refused(Refusal::UnequalLists);
+                return Err(Refusal::UnequalLists);
             }
             let bounds = Bbox {
                 min_x,

@@ -1,17 +1,10 @@
 // Rings: their points and neighbours, and cleaning, which drops a point that is close to the one before it.
-ghost use Rattle.std.specs.Prelude.{◌≡◌, true, ◌≤◌, ◌<◌, length};
+ghost use Rattle.std.specs.Prelude.{◌≡◌, true, ◌≤◌, ◌<◌, length, take};
 ghost use Rattle.lists.specs.Lists.{put, elems, Below, next_of, prev_of};
 ghost use Rattle.openrdson_core.specs.Points.{point_at};
 ghost use Rattle.meshing.specs.Ring.{is_close, kept, gathered, KeptIn, CleanedAs};
 
-use openrdson_core::{Check, Point, Refusal, ring_check};
-
-// A cleaned ring's count of points, or why there is none.
-#[derive(Clone, Copy)]
-pub enum Cleaned {
-    Points(usize),
-    Refused(Refusal),
-}
+use openrdson_core::{Point, Refusal, ring_check};
 
 // 2^-52, Rust's f64::EPSILON.
 const TINY: f64 = 2.220446049250313e-16;
@@ -46,31 +39,32 @@ pub fn prev_place(m: usize, i: usize) -> usize
 }
 
 // Writes a ring without the points that are close to the last one kept; 16, 2, 1, 12.
-pub fn dedup_ring(xs: &[f64], ys: &[f64], out_x: &mut [f64], out_y: &mut [f64]) -> Cleaned
+pub fn dedup_ring(
+    xs: &[f64],
+    ys: &[f64],
+    out_x: &mut [f64],
+    out_y: &mut [f64],
+) -> Result<usize, Refusal>
     ensures { CleanedAs xs.now ys.now out_x.old out_y.old result out_x.new out_y.new }
 {
     let room = out_x.len();
     if room != out_y.len() {
-        return Cleaned::Refused(Refusal::UnequalLists);
+        return Err(Refusal::UnequalLists);
     }
-    let checked = ring_check(xs, ys);
-    match checked {
-        Check::Refused(why) => Cleaned::Refused(why),
-        Check::Fine => {
-            let mut places = [0usize; 512];
-            let count = kept_places(xs, ys, &mut places);
-            if count > room {
-                return Cleaned::Refused(Refusal::OutputTooShort);
-            }
-            gather_into(xs, &places[..count], out_x);
-            gather_into(ys, &places[..count], out_y);
-            Cleaned::Points(count)
-        }
+    ring_check(xs, ys)?;
+    let mut places = [0usize; 512];
+    let count = kept_places(xs, ys, &mut places);
+    if count > room {
+        return Err(Refusal::OutputTooShort);
     }
+    gather_into(xs, &places[..count], out_x);
+    gather_into(ys, &places[..count], out_y);
+    Ok(count)
 }
 
 // Whether no point of a ring is close to the one before it, and the last is not to the first: cleaning then keeps all of them.
 // For callers that have checked the ring.
+#[tactic(auto, using(crate::proofs::RingLaws::clean_start, crate::proofs::RingLaws::clean_more, crate::proofs::RingLaws::clean_few, crate::proofs::RingLaws::clean_end))]
 pub fn is_clean(xs: &[f64], ys: &[f64]) -> bool
     requires { length ys.now ≡ length xs.now }
     ensures { result ≡ true → kept xs.now ys.now ≡ elems (length xs.now) (λ i. i) }
@@ -79,12 +73,10 @@ pub fn is_clean(xs: &[f64], ys: &[f64]) -> bool
     if n < 2 {
         return true;
     }
-    let mut i = 1;
-    while i < n {
+    for i in 1..n {
         if is_close(point_at(xs, ys, i - 1), point_at(xs, ys, i)) {
             return false;
         }
-        i += 1;
     }
     !is_close(point_at(xs, ys, 0), point_at(xs, ys, n - 1))
 }
@@ -98,19 +90,17 @@ pub fn kept_places(xs: &[f64], ys: &[f64], places: &mut [usize]) -> usize
     if n == 0 {
         return 0;
     }
-    let first = Point::new(xs[0], ys[0]);
+    let first = point_at(xs, ys, 0);
     places[0] = 0;
     let mut last = first;
     let mut count = 1;
-    let mut i = 1;
-    while i < n {
-        let point = Point::new(xs[i], ys[i]);
+    for i in 1..n {
+        let point = point_at(xs, ys, i);
         if !is_close(last, point) {
             places[count] = i;
             count += 1;
             last = point;
         }
-        i += 1;
     }
     if count <= 1 {
         return count;
@@ -119,6 +109,21 @@ pub fn kept_places(xs: &[f64], ys: &[f64], places: &mut [usize]) -> usize
         return count - 1;
     }
     count
+}
+
+// Writes the points of a ring that are kept over the start of two lists, and counts them. For callers that have checked the ring.
+pub fn clean_into(xs: &[f64], ys: &[f64], out_x: &mut [f64], out_y: &mut [f64]) -> usize
+    requires { (length xs.now ≡ length ys.now) × (length xs.now ≤ 512) × (length xs.now ≤ length out_x.old) × (length xs.now ≤ length out_y.old) }
+    ensures few { result ≤ 512 }
+    ensures many { result ≡ length (kept xs.now ys.now) }
+    ensures kept_x { take result out_x.new ≡ gathered xs.now (kept xs.now ys.now) }
+    ensures kept_y { take result out_y.new ≡ gathered ys.now (kept xs.now ys.now) }
+{
+    let mut places = [0usize; 512];
+    let n = kept_places(xs, ys, &mut places);
+    gather_into(xs, &places[..n], out_x);
+    gather_into(ys, &places[..n], out_y);
+    n
 }
 
 // Whether the points differ by less than 2^-52 in x and in y.
@@ -132,14 +137,12 @@ fn is_close(a: Point, b: Point) -> bool
 }
 
 // Writes the numbers of l at the places over the start of out. For callers whose places lie in l and have room in out.
+#[tactic(auto, using(lists::proofs::Fills::no_elems, lists::proofs::Places::below_at))]
 pub fn gather_into(l: &[f64], places: &[usize], out: &mut [f64])
     requires { Below (length l.now) places.now × (length places.now ≤ length out.old) }
     ensures { out.new ≡ put out.old 0 (gathered l.now places.now) }
 {
-    let mut i = 0;
-    while i < places.len() {
-        let k = places[i];
+    for (i, &k) in places.iter().enumerate() {
         out[i] = l[k];
-        i += 1;
     }
 }

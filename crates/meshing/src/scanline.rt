@@ -3,32 +3,18 @@ ghost use Rattle.std.specs.Prelude.{◌≡◌, true, ◌+◌, ◌*◌, ◌≤◌
 ghost use Rattle.lists.specs.Answer.{given, and_then, map_answer};
 ghost use Rattle.lists.specs.Lists.{put, runs, joined};
 ghost use Rattle.openrdson_core.specs.Points.{ring_fault};
+ghost use Rattle.openrdson_core.specs.Answers.{answer};
 ghost use Rattle.openrdson_core.specs.Mesh.{the_mesh, parallel, within};
 ghost use Rattle.meshing.specs.Added.{Adds, fit_part};
 ghost use Rattle.meshing.specs.Levels.{the_band, levels as levels_of, bands_of, middle as middle_of};
 ghost use Rattle.meshing.specs.Quads.{band_quads};
 ghost use Rattle.meshing.specs.Scanline as spec;
 
-use crate::boxes::Meshed;
-use crate::crossings::{Crossed, cross};
+use crate::crossings::cross;
 use crate::levels::level_list;
-use crate::quads::{Tally, tally_quads, write_eight, write_quads};
-use crate::writes::{fill_bytes, fill_words};
+use crate::quads::{Tally, tally_quads, write_quads};
+use crate::writes::{fill, write_eight};
 use openrdson_core::{Counts, Refusal, UNUSED, has_room};
-
-// How many quads a ring has, or why it has none.
-#[derive(Clone, Copy)]
-pub enum Scanned {
-    Quads(usize),
-    Refused(Refusal),
-}
-
-// The tally of the quads of all bands; or that an edge crosses a band's middle out of range.
-#[derive(Clone, Copy)]
-pub enum Bands {
-    Quads(Tally),
-    Outside,
-}
 
 // The middle between two levels.
 fn middle(low: f64, high: f64) -> f64
@@ -37,8 +23,14 @@ fn middle(low: f64, high: f64) -> f64
     0.5 * (low + high)
 }
 
-// Tallies the quads of the bands between levels. `edges` and `at` are room to work in.
-fn tally_bands(xs: &[f64], ys: &[f64], levels: &[f64], edges: &mut [usize], at: &mut [f64]) -> Bands
+// Tallies the quads of the bands between levels; none if an edge crosses a band's middle out of range. `edges` and `at` are room to work in.
+fn tally_bands(
+    xs: &[f64],
+    ys: &[f64],
+    levels: &[f64],
+    edges: &mut [usize],
+    at: &mut [f64],
+) -> Option<Tally>
     requires { spec.Worked xs.now ys.now levels.now (length edges.old) (length at.old) }
     ensures { spec.BandsAs xs.now ys.now (bands_of levels.now) result }
 {
@@ -48,51 +40,42 @@ fn tally_bands(xs: &[f64], ys: &[f64], levels: &[f64], edges: &mut [usize], at: 
     };
     let mut below = binary64::minus_infinity();
     let mut count = 0;
-    let mut k = 0;
-    while k + 1 < levels.len() {
-        let low = levels[k];
-        let high = levels[k + 1];
+    for k in 1..levels.len() {
+        let low = levels[k - 1];
+        let high = levels[k];
         let y = middle(low, high);
-        let crossed = cross(xs, ys, below, y, edges, at, count);
-        match crossed {
-            Crossed::Outside => {
-                return Bands::Outside;
-            }
-            Crossed::Edges(m) => {
-                t = tally_quads(xs, ys, low, high, &edges[..m], t);
-                count = m;
-            }
-        }
+        count = cross(xs, ys, below, y, edges, at, count)?;
+        t = tally_quads(xs, ys, low, high, &edges[..count], t);
         below = y;
-        k += 1;
     }
-    Bands::Quads(t)
+    Some(t)
 }
 
 // What the scanline answers: 3, 9, 1 for a crossing, 11, 1 for a node. The crossings of a height are never odd in number, so 10 does not arise.
-fn scan_ring(xs: &[f64], ys: &[f64], levels: &[f64], edges: &mut [usize], at: &mut [f64]) -> Scanned
+fn scan_ring(
+    xs: &[f64],
+    ys: &[f64],
+    levels: &[f64],
+    edges: &mut [usize],
+    at: &mut [f64],
+) -> Result<usize, Refusal>
     requires { spec.Worked xs.now ys.now levels.now (length edges.old) (length at.old) × (levels.now ≡ levels_of ys.now) }
-    ensures { spec.scanned_answer result ≡ map_answer length (spec.scanline_of xs.now ys.now) }
+    ensures { answer result ≡ map_answer length (spec.scanline_of xs.now ys.now) }
 {
     if xs.len() < 3 {
-        return Scanned::Refused(Refusal::TooFewVertices);
+        return Err(Refusal::TooFewVertices);
     }
     if levels.len() < 2 {
-        return Scanned::Refused(Refusal::DegenerateYExtent);
+        return Err(Refusal::DegenerateYExtent);
     }
-    let found = tally_bands(xs, ys, levels, edges, at);
-    match found {
-        Bands::Outside => Scanned::Refused(Refusal::NumberOutOfRange),
-        Bands::Quads(t) => {
-            if t.quads == 0 {
-                return Scanned::Refused(Refusal::NoTrapezoid);
-            }
-            if !t.inside {
-                return Scanned::Refused(Refusal::NumberOutOfRange);
-            }
-            Scanned::Quads(t.quads)
-        }
+    let t = tally_bands(xs, ys, levels, edges, at).ok_or(Refusal::NumberOutOfRange)?;
+    if t.quads == 0 {
+        return Err(Refusal::NoTrapezoid);
     }
+    if !t.inside {
+        return Err(Refusal::NumberOutOfRange);
+    }
+    Ok(t.quads)
 }
 
 // Writes the nodes' x and y of the quads of the bands between levels, from place p on. For callers that have decided, and found room.
@@ -114,56 +97,42 @@ fn write_bands(
     let mut below = binary64::minus_infinity();
     let mut count = 0;
     let mut place = p;
-    let mut k = 0;
-    while k + 1 < levels.len() {
-        let low = levels[k];
-        let high = levels[k + 1];
+    for k in 1..levels.len() {
+        let low = levels[k - 1];
+        let high = levels[k];
         let y = middle(low, high);
-        let crossed = cross(xs, ys, below, y, edges, at, count);
-        match crossed {
-            // All crossings are in range.
-            Crossed::Outside => {
-                return;
-            }
-            Crossed::Edges(m) => {
-                place = write_quads(xs, ys, low, high, &edges[..m], nx, ny, place);
-                count = m;
-            }
-        }
+        count = cross(xs, ys, below, y, edges, at, count).unwrap();
+        place = write_quads(xs, ys, low, high, &edges[..count], nx, ny, place);
         below = y;
-        k += 1;
     }
 }
 
 // Writes the nodes' z of n quads from place p on: four at the bottom, four at the top.
+#[tactic(auto, using(lists::proofs::Fills::no_runs, lists::proofs::Fills::one_run, lists::proofs::Fills::all_runs))]
 fn write_heights(nz: &mut [f64], p: usize, n: usize, z_bottom: f64, z_top: f64)
     requires { p + n * 8 ≤ length nz.old }
     ensures { nz.new ≡ put nz.old p (runs n (λ _. spec.quad_zs z_bottom z_top)) }
 {
-    let mut at = p;
-    let mut i = 0;
-    while i < n {
+    for i in 0..n {
+        let at = p + i * 8;
         write_eight(
-            nz, at, z_bottom, z_bottom, z_bottom, z_bottom, z_top, z_top, z_top, z_top,
+            nz,
+            at,
+            [
+                z_bottom, z_bottom, z_bottom, z_bottom, z_top, z_top, z_top, z_top,
+            ],
         );
-        at += 8;
-        i += 1;
     }
 }
 
 // Writes the node places of the two prisms of each of n quads from place p on; the first quad's first node has the number `base`.
+#[tactic(auto, using(lists::proofs::Fills::no_runs, lists::proofs::Fills::one_run, lists::proofs::Fills::all_runs))]
 fn write_pairs(places: &mut [u32], p: usize, n: usize, base: usize)
     requires { (p + n * 16 ≤ length places.old) × (base + n * 8 ≤ 1048576) }
     ensures { places.new ≡ put places.old p (runs n (λ i. spec.quad_places (base + i * 8))) }
 {
-    let mut at = p;
-    let mut a = base as u32;
-    let mut i = 0;
-    while i < n {
-        write_pair(places, at, a);
-        at += 16;
-        a += 8;
-        i += 1;
+    for i in 0..n {
+        write_pair(places, p + i * 16, (base + i * 8) as u32);
     }
 }
 
@@ -172,33 +141,20 @@ fn write_pair(places: &mut [u32], at: usize, a: u32)
     requires { (at + 16 ≤ length places.old) × (a ≤ 1048576) }
     ensures { places.new ≡ put places.old at (spec.quad_places a) }
 {
-    crate::grid::write_eight(
+    write_eight(
         places,
         at,
-        a,
-        a + 1,
-        a + 2,
-        a + 4,
-        a + 5,
-        a + 6,
-        UNUSED,
-        UNUSED,
+        [a, a + 1, a + 2, a + 4, a + 5, a + 6, UNUSED, UNUSED],
     );
-    crate::grid::write_eight(
+    write_eight(
         places,
         at + 8,
-        a,
-        a + 2,
-        a + 3,
-        a + 4,
-        a + 6,
-        a + 7,
-        UNUSED,
-        UNUSED,
+        [a, a + 2, a + 3, a + 4, a + 6, a + 7, UNUSED, UNUSED],
     );
 }
 
 // Writes n quads that have been decided, where there is room; 12.
+#[tactic(auto, using(crate::proofs::ScanlineLaws::decided, crate::proofs::ScanlineLaws::quads_few, crate::proofs::ScanlineLaws::bands_fine, crate::proofs::ScanlineLaws::quad_room))]
 fn write_scanline(
     xs: &[f64],
     ys: &[f64],
@@ -216,35 +172,32 @@ fn write_scanline(
     kinds: &mut [u8],
     places: &mut [u32],
     regions: &mut [u32],
-) -> Meshed
+) -> Result<Counts, Refusal>
     requires worked { spec.Worked xs.now ys.now levels.now (length edges.old) (length at.old) × (levels.now ≡ levels_of ys.now) × (map_answer length (spec.scanline_of xs.now ys.now) ≡ given n) }
     requires lists { (parallel (the_mesh nx.old ny.old nz.old kinds.old places.old regions.old) ≡ true) × (within counts (the_mesh nx.old ny.old nz.old kinds.old places.old regions.old) ≡ true) }
     ensures { Adds (and_then (map_answer (spec.quads_part counts.nodes z_bottom z_top) (spec.scanline_of xs.now ys.now)) (fit_part counts (the_mesh nx.old ny.old nz.old kinds.old places.old regions.old))) counts region (the_mesh nx.old ny.old nz.old kinds.old places.old regions.old) (the_mesh nx.new ny.new nz.new kinds.new places.new regions.new) result }
 {
     if !has_room(8 * n, counts.nodes, nx.len()) {
-        return Meshed::Refused(Refusal::OutputTooShort);
+        return Err(Refusal::OutputTooShort);
     }
     if !has_room(2 * n, counts.elements, kinds.len()) {
-        return Meshed::Refused(Refusal::OutputTooShort);
+        return Err(Refusal::OutputTooShort);
     }
     write_bands(xs, ys, levels, edges, at, nx, ny, counts.nodes);
     write_heights(nz, counts.nodes, n, z_bottom, z_top);
-    fill_bytes(kinds, counts.elements, 2 * n, 2);
+    fill(kinds, counts.elements, 2 * n, 2);
     write_pairs(places, 8 * counts.elements, n, counts.nodes);
-    fill_words(regions, counts.elements, 2 * n, region);
-    Meshed::Done(Counts {
+    fill(regions, counts.elements, 2 * n, region);
+    Ok(Counts {
         nodes: counts.nodes + 8 * n,
         elements: counts.elements + 2 * n,
     })
 }
 
-// Meshes a ring, cleaned once, by the scanline. `levels`, `edges` and `at` are room to work in.
-fn mesh_levels(
+// Meshes a ring of N points or fewer, cleaned once, by the scanline.
+fn mesh_levels<const N: usize>(
     xs: &[f64],
     ys: &[f64],
-    levels: &mut [f64],
-    edges: &mut [usize],
-    at: &mut [f64],
     z_bottom: f64,
     z_top: f64,
     region: u32,
@@ -255,34 +208,34 @@ fn mesh_levels(
     kinds: &mut [u8],
     places: &mut [u32],
     regions: &mut [u32],
-) -> Meshed
-    requires ring { (ring_fault xs.now ys.now ≡ given tt) × (length ys.now ≤ length levels.old) × (length ys.now ≤ length edges.old) × (length ys.now ≤ length at.old) }
+) -> Result<Counts, Refusal>
+    requires ring { (ring_fault xs.now ys.now ≡ given tt) × (length ys.now ≤ N) × (N ≤ 512) }
     requires lists { (parallel (the_mesh nx.old ny.old nz.old kinds.old places.old regions.old) ≡ true) × (within counts (the_mesh nx.old ny.old nz.old kinds.old places.old regions.old) ≡ true) }
     ensures { Adds (and_then (map_answer (spec.quads_part counts.nodes z_bottom z_top) (spec.scanline_of xs.now ys.now)) (fit_part counts (the_mesh nx.old ny.old nz.old kinds.old places.old regions.old))) counts region (the_mesh nx.old ny.old nz.old kinds.old places.old regions.old) (the_mesh nx.new ny.new nz.new kinds.new places.new regions.new) result }
 {
-    let m = level_list(ys, levels);
-    let found = scan_ring(xs, ys, &levels[..m], edges, at);
-    match found {
-        Scanned::Refused(why) => Meshed::Refused(why),
-        Scanned::Quads(n) => write_scanline(
-            xs,
-            ys,
-            &levels[..m],
-            edges,
-            at,
-            n,
-            z_bottom,
-            z_top,
-            region,
-            counts,
-            nx,
-            ny,
-            nz,
-            kinds,
-            places,
-            regions,
-        ),
-    }
+    let mut levels = [0.0; N];
+    let mut edges = [0usize; N];
+    let mut at = [0.0; N];
+    let m = level_list(ys, &mut levels);
+    let n = scan_ring(xs, ys, &levels[..m], &mut edges, &mut at)?;
+    write_scanline(
+        xs,
+        ys,
+        &levels[..m],
+        &mut edges,
+        &mut at,
+        n,
+        z_bottom,
+        z_top,
+        region,
+        counts,
+        nx,
+        ny,
+        nz,
+        kinds,
+        places,
+        regions,
+    )
 }
 
 // Meshes a ring, cleaned once, by the scanline: 3, 9, 1, 11, 1, 12; with room to work in for a small ring or a large one. For callers that have
@@ -300,50 +253,16 @@ pub fn mesh_scanline(
     kinds: &mut [u8],
     places: &mut [u32],
     regions: &mut [u32],
-) -> Meshed
+) -> Result<Counts, Refusal>
     requires { (ring_fault xs.now ys.now ≡ given tt) × (parallel (the_mesh nx.old ny.old nz.old kinds.old places.old regions.old) ≡ true) × (within counts (the_mesh nx.old ny.old nz.old kinds.old places.old regions.old) ≡ true) }
     ensures { Adds (and_then (map_answer (spec.quads_part counts.nodes z_bottom z_top) (spec.scanline_of xs.now ys.now)) (fit_part counts (the_mesh nx.old ny.old nz.old kinds.old places.old regions.old))) counts region (the_mesh nx.old ny.old nz.old kinds.old places.old regions.old) (the_mesh nx.new ny.new nz.new kinds.new places.new regions.new) result }
 {
     if xs.len() <= 32 {
-        let mut few = [0.0; 32];
-        let mut few_edges = [0usize; 32];
-        let mut few_at = [0.0; 32];
-        return mesh_levels(
-            xs,
-            ys,
-            &mut few,
-            &mut few_edges,
-            &mut few_at,
-            z_bottom,
-            z_top,
-            region,
-            counts,
-            nx,
-            ny,
-            nz,
-            kinds,
-            places,
-            regions,
+        return mesh_levels::<32>(
+            xs, ys, z_bottom, z_top, region, counts, nx, ny, nz, kinds, places, regions,
         );
     }
-    let mut levels = [0.0; 512];
-    let mut edges = [0usize; 512];
-    let mut at = [0.0; 512];
-    mesh_levels(
-        xs,
-        ys,
-        &mut levels,
-        &mut edges,
-        &mut at,
-        z_bottom,
-        z_top,
-        region,
-        counts,
-        nx,
-        ny,
-        nz,
-        kinds,
-        places,
-        regions,
+    mesh_levels::<512>(
+        xs, ys, z_bottom, z_top, region, counts, nx, ny, nz, kinds, places, regions,
     )
 }

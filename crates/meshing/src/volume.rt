@@ -1,12 +1,12 @@
 // The volume of a mesh: a prism's by its first triangle and its mean height, another element's by its bounding box.
 ghost use Rattle.std.specs.Prelude.{◌≡◌, ℕ, ◌*◌, ◌≤◌, ◌<◌, length, get_or};
 ghost use Rattle.lists.specs.Lists.{part};
-ghost use Rattle.openrdson_core.specs.Answers.{measured_answer};
+ghost use Rattle.openrdson_core.specs.Answers.{answer};
 ghost use Rattle.openrdson_core.specs.Mesh.{the_mesh, kind_of, used_places};
 ghost use Rattle.meshing.specs.Volumes as spec;
 
 use crate::whole::mesh_check;
-use openrdson_core::{Check, Measured, NodeNumber, Point3};
+use openrdson_core::{NodeNumber, Point3, Refusal};
 
 // From a to b.
 fn minus(b: Point3, a: Point3) -> Point3
@@ -24,6 +24,7 @@ fn is_plain(x: f64) -> bool
 }
 
 // The size of a vector. Along z, as the cross product of a level triangle is, it needs no root: the root of a rounded square is the size.
+#[tactic(auto, using(crate::proofs::VolumeLaws::norm_along), unfolding(crate::specs::Volumes::norm))]
 fn norm(c: Point3) -> f64
     ensures { result ≡ spec.norm c }
 {
@@ -43,6 +44,7 @@ fn cross_product(u: Point3, v: Point3) -> Point3
     )
 }
 
+#[tactic(auto, unfolding(crate::specs::Volumes::triangle_area))]
 fn triangle_area(a: Point3, b: Point3, c: Point3) -> f64
     ensures { result ≡ spec.triangle_area a b c }
 {
@@ -50,6 +52,7 @@ fn triangle_area(a: Point3, b: Point3, c: Point3) -> f64
 }
 
 // The mean of the sizes of three heights.
+#[tactic(auto, unfolding(crate::specs::Volumes::mean_height))]
 fn mean_height(p: f64, q: f64, r: f64) -> f64
     ensures { result ≡ spec.mean_height p q r }
 {
@@ -94,12 +97,11 @@ fn reach(l: &[f64], n: usize, places: &[u32]) -> f64
 {
     let mut least = binary64::infinity();
     let mut most = binary64::minus_infinity();
-    let mut k = 0;
-    while k < n {
+    for k in 0..n {
         let v = l[places[k] as usize];
+        // Not std's min and max: of two zeros they take the other one.
         least = if v < least { v } else { least };
         most = if most < v { v } else { most };
-        k += 1;
     }
     most - least
 }
@@ -122,16 +124,15 @@ fn volume_of_elements(xs: &[f64], ys: &[f64], zs: &[f64], kinds: &[u8], places: 
     ensures { result ≡ spec.volume_below xs.now ys.now zs.now kinds.now places.now (length kinds.now) }
 {
     let mut sum = 0.0;
-    let mut e = 0;
-    while e < kinds.len() {
+    for e in 0..kinds.len() {
         let first = 8 * e;
         sum = sum + element_volume(xs, ys, zs, kinds[e], &places[first..first + 8]);
-        e += 1;
     }
     sum
 }
 
 // The volume of a mesh, whose lists hold it and nothing past it; 16, 2, 1, 15, 13.
+#[tactic(auto, unfolding(crate::specs::Volumes::mesh_volume))]
 pub fn mesh_volume(
     xs: &[f64],
     ys: &[f64],
@@ -139,12 +140,9 @@ pub fn mesh_volume(
     kinds: &[u8],
     places: &[u32],
     regions: &[u32],
-) -> Measured
-    ensures { measured_answer result ≡ spec.mesh_volume (the_mesh xs.now ys.now zs.now kinds.now places.now regions.now) }
+) -> Result<f64, Refusal>
+    ensures { answer result ≡ spec.mesh_volume (the_mesh xs.now ys.now zs.now kinds.now places.now regions.now) }
 {
-    let checked = mesh_check(xs, ys, zs, kinds, places, regions, true);
-    match checked {
-        Check::Refused(why) => Measured::Refused(why),
-        Check::Fine => Measured::Value(volume_of_elements(xs, ys, zs, kinds, places)),
-    }
+    mesh_check(xs, ys, zs, kinds, places, regions, true)?;
+    Ok(volume_of_elements(xs, ys, zs, kinds, places))
 }

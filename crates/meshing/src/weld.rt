@@ -5,10 +5,9 @@ ghost use Rattle.lists.specs.Lists.{put, gather, first};
 ghost use Rattle.openrdson_core.specs.Mesh.{the_mesh};
 ghost use Rattle.meshing.specs.Welds as spec;
 
-use crate::boxes::Meshed;
 use crate::whole::mesh_check;
-use crate::writes::{copy_bytes, copy_words};
-use openrdson_core::{Check, Counts, Refusal, lists_parallel};
+use crate::writes::copy;
+use openrdson_core::{Counts, Refusal, lists_parallel};
 
 // What nodes that become one have in common: each coordinate over the tolerance, as a whole number.
 #[derive(Clone, Copy)]
@@ -30,18 +29,14 @@ fn key_at(xs: &[f64], ys: &[f64], zs: &[f64], tolerance: f64, i: usize) -> Key
     }
 }
 
-// Whether node i has this key; most nodes differ in x.
+// Whether node i has this key. Not by `key_at`: most nodes differ in x, and the others are not worked out then.
 fn has_key(xs: &[f64], ys: &[f64], zs: &[f64], tolerance: f64, i: usize, key: Key) -> bool
     requires { (length ys.now ≡ length xs.now) × (length zs.now ≡ length xs.now) × (i < length xs.now) }
     ensures { result ≡ spec.same_key (spec.key_at tolerance xs.now ys.now zs.now i) key }
 {
-    if binary64::nearest_capped(xs[i] / tolerance) != key.x {
-        return false;
-    }
-    if binary64::nearest_capped(ys[i] / tolerance) != key.y {
-        return false;
-    }
-    binary64::nearest_capped(zs[i] / tolerance) == key.z
+    binary64::nearest_capped(xs[i] / tolerance) == key.x
+        && binary64::nearest_capped(ys[i] / tolerance) == key.y
+        && binary64::nearest_capped(zs[i] / tolerance) == key.z
 }
 
 // The first of the first n nodes with this key, or n.
@@ -49,15 +44,12 @@ fn find_key(xs: &[f64], ys: &[f64], zs: &[f64], n: usize, tolerance: f64, key: K
     requires { (length ys.now ≡ length xs.now) × (length zs.now ≡ length xs.now) × (n ≤ length xs.now) }
     ensures { result ≡ spec.found_or n (first (λ j. spec.same_key (spec.key_at tolerance xs.now ys.now zs.now j) key) n 0) }
 {
-    let mut found = n;
-    let mut j = 0;
-    while (j < n) & (found == n) {
+    for j in 0..n {
         if has_key(xs, ys, zs, tolerance, j, key) {
-            found = j;
+            return j;
         }
-        j += 1;
     }
-    found
+    n
 }
 
 // Whether node i is the first with its key.
@@ -75,12 +67,10 @@ fn count_kept(xs: &[f64], ys: &[f64], zs: &[f64], tolerance: f64) -> usize
     ensures { (result ≡ length (spec.kept tolerance xs.now ys.now zs.now)) × (result ≤ length xs.now) }
 {
     let mut count = 0;
-    let mut i = 0;
-    while i < xs.len() {
+    for i in 0..xs.len() {
         if is_first(xs, ys, zs, tolerance, i) {
             count += 1;
         }
-        i += 1;
     }
     count
 }
@@ -99,15 +89,13 @@ fn write_kept(
     ensures { (result ≡ length (spec.kept tolerance xs.now ys.now zs.now)) × (out_x.new ≡ put out_x.old 0 (gather nan xs.now (spec.kept tolerance xs.now ys.now zs.now))) × (out_y.new ≡ put out_y.old 0 (gather nan ys.now (spec.kept tolerance xs.now ys.now zs.now))) × (out_z.new ≡ put out_z.old 0 (gather nan zs.now (spec.kept tolerance xs.now ys.now zs.now))) }
 {
     let mut count = 0;
-    let mut i = 0;
-    while i < xs.len() {
+    for i in 0..xs.len() {
         if is_first(xs, ys, zs, tolerance, i) {
             out_x[count] = xs[i];
             out_y[count] = ys[i];
             out_z[count] = zs[i];
             count += 1;
         }
-        i += 1;
     }
     count
 }
@@ -149,10 +137,8 @@ fn write_places(
     requires { (length ys.now ≡ length xs.now) × (length zs.now ≡ length xs.now) × (length xs.now ≤ 1048576) × spec.KeptNodes tolerance xs.now ys.now zs.now kept_x.now kept_y.now kept_z.now × (length places.now ≤ length out.old) }
     ensures { out.new ≡ put out.old 0 (map (spec.renumbered tolerance xs.now ys.now zs.now) places.now) }
 {
-    let mut t = 0;
-    while t < places.len() {
+    for t in 0..places.len() {
         out[t] = renumbered(xs, ys, zs, tolerance, kept_x, kept_y, kept_z, places[t]);
-        t += 1;
     }
 }
 
@@ -171,15 +157,15 @@ fn weld_checked(
     out_kinds: &mut [u8],
     out_places: &mut [u32],
     out_regions: &mut [u32],
-) -> Meshed
+) -> Result<Counts, Refusal>
     requires { (length ys.now ≡ length xs.now) × (length zs.now ≡ length xs.now) × (length xs.now ≤ 1048576) × (length regions.now ≡ length kinds.now) × (length places.now ≡ 8 * length kinds.now) × (length out_y.old ≡ length out_x.old) × (length out_z.old ≡ length out_x.old) × (length out_regions.old ≡ length out_kinds.old) × (length out_places.old ≡ 8 * length out_kinds.old) }
     ensures { spec.WeldedAs (spec.fit_welded (the_mesh out_x.old out_y.old out_z.old out_kinds.old out_places.old out_regions.old) (spec.welded tolerance (the_mesh xs.now ys.now zs.now kinds.now places.now regions.now))) (the_mesh out_x.old out_y.old out_z.old out_kinds.old out_places.old out_regions.old) result (the_mesh out_x.new out_y.new out_z.new out_kinds.new out_places.new out_regions.new) }
 {
     if kinds.len() > out_kinds.len() {
-        return Meshed::Refused(Refusal::OutputTooShort);
+        return Err(Refusal::OutputTooShort);
     }
     if count_kept(xs, ys, zs, tolerance) > out_x.len() {
-        return Meshed::Refused(Refusal::OutputTooShort);
+        return Err(Refusal::OutputTooShort);
     }
     let nodes = write_kept(xs, ys, zs, tolerance, out_x, out_y, out_z);
     write_places(
@@ -193,9 +179,9 @@ fn weld_checked(
         places,
         out_places,
     );
-    copy_bytes(kinds, out_kinds);
-    copy_words(regions, out_regions);
-    Meshed::Done(Counts {
+    copy(kinds, out_kinds, 0);
+    copy(regions, out_regions, 0);
+    Ok(Counts {
         nodes,
         elements: kinds.len(),
     })
@@ -216,7 +202,7 @@ pub fn weld_nodes(
     out_kinds: &mut [u8],
     out_places: &mut [u32],
     out_regions: &mut [u32],
-) -> Meshed
+) -> Result<Counts, Refusal>
     ensures { spec.WeldedAs (spec.weld_nodes (the_mesh xs.now ys.now zs.now kinds.now places.now regions.now) tolerance (the_mesh out_x.old out_y.old out_z.old out_kinds.old out_places.old out_regions.old)) (the_mesh out_x.old out_y.old out_z.old out_kinds.old out_places.old out_regions.old) result (the_mesh out_x.new out_y.new out_z.new out_kinds.new out_places.new out_regions.new) }
 {
     if !lists_parallel(
@@ -227,26 +213,23 @@ pub fn weld_nodes(
         out_places.len(),
         out_regions.len(),
     ) {
-        return Meshed::Refused(Refusal::UnequalLists);
+        return Err(Refusal::UnequalLists);
     }
     let in_range = binary64::coordinate_in_range(tolerance);
-    let checked = mesh_check(xs, ys, zs, kinds, places, regions, in_range);
-    match checked {
-        Check::Refused(why) => Meshed::Refused(why),
-        Check::Fine => weld_checked(
-            xs,
-            ys,
-            zs,
-            kinds,
-            places,
-            regions,
-            tolerance,
-            out_x,
-            out_y,
-            out_z,
-            out_kinds,
-            out_places,
-            out_regions,
-        ),
-    }
+    mesh_check(xs, ys, zs, kinds, places, regions, in_range)?;
+    weld_checked(
+        xs,
+        ys,
+        zs,
+        kinds,
+        places,
+        regions,
+        tolerance,
+        out_x,
+        out_y,
+        out_z,
+        out_kinds,
+        out_places,
+        out_regions,
+    )
 }

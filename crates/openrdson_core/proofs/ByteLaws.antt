@@ -1,42 +1,83 @@
--- Names and little-endian numbers in lists of bytes. Assumes nothing.
-use mathlib.Core.Path.{◌≡◌, sym, ap}
-use mathlib.Core.Option
-use mathlib.Core.Option.{Option, some, none}
-use mathlib.Core.List.{List, [], ◌∷◌}
-use Prim.Native.Nat.{ℕ, zero, suc, ◌+◌, ◌*◌, ◌-◌, ◌^◌, ◌≤◌, ◌<◌}
-use native.Mathlib.Nat.{not-suc-le-zero, le_of_suc-le-suc, pow-suc}
-use native.Mathlib.Omega.{arith}
-use lib.Dec.{eqb}
-use lib.ListN.{length, get_or, drop}
-use Rattle.lists.specs.Lists.{first}
-use Rattle.lists.proofs.Parts.{rest_back, rest_most, rest_each}
-use Rattle.openrdson_core.specs.Bytes.{byte_at, name_length, little}
+-- Names and little-endian numbers in lists of bytes: std's words for them are the definitions. Assumes nothing.
+use Rattle.std.proofs.Common.{◌≡◌, refl, sym, ap, ◌∙◌, ℕ, zero, suc, ◌+◌, ◌*◌, ◌<◌, ◌≤◌, Bool, true, false, ◌&&◌, List, [], ◌∷◌, eqb, leb, length, get_or, take, drop, arith, w16, w64, drop_of_length-le, get_or-drop, length-drop}
+use Rattle.std.specs.Int.{from_le_bytes}
+use Rattle.std.proofs.Math.Dec.{eqb-zero-suc, eqb-suc-zero, eqb-suc-suc, leb-suc-zero, leb-suc-suc}
+use Rattle.std.proofs.Math.Seq.{drop-cons}
+use Rattle.std.proofs.lemmas.Bool.{le-leb}
+use Rattle.std.proofs.lemmas.Bool.Decides.{nat_tests}
+use Rattle.std.specs.List as std
+use Rattle.std.specs.Cmp.Lexicographic.{pointwise}
+use Rattle.lists.specs.Lists.{part, all_below}
+use Rattle.openrdson_core.specs.Bytes.{byte_at, same, starts_with, little}
 
--- the length of a name, by where the first zero is
-pub name_length_lem : (s : List ℕ) (n : ℕ) → first (λ i. eqb (byte_at s i) 0) (length s) 0 ≡ some n → n ≡ name_length s
-unfolding name_length
-name_length_lem s n e = sym (ap (λ (o : Option ℕ). Option.get_or o (length s)) e)
+and_assoc : (a b c : Bool) → ((a && b) && c) ≡ (a && (b && c))
+and_assoc true b c = refl
+and_assoc false b c = refl
 
-pub name_whole : (s : List ℕ) → first (λ i. eqb (byte_at s i) 0) (length s) 0 ≡ none → length s ≡ name_length s
-unfolding name_length
-name_whole s e = sym (ap (λ (o : Option ℕ). Option.get_or o (length s)) e)
+and_turned : (a b c : Bool) → (a && (b && c)) ≡ (b && (a && c))
+and_turned true b c = refl
+and_turned false true c = refl
+and_turned false false c = refl
 
--- ---- numbers, from the last byte on
-
-pub little_back : (c : List ℕ) (i : ℕ) → 0 < i → i ≤ length c → little (drop (i - 1) c) ≡ get_or c (i - 1) 0 + 256 * little (drop i c)
-unfolding little
-little_back c i p h = ap little (rest_back c i 0 p h)
-
-pub little_below : (n : ℕ) (c : List ℕ) → ((i : ℕ) → get_or c i 0 < 256) → length c ≤ n → little c < 256 ^ n
-unfolding little
-little_below n [] b h = pow_pos_256 n
+-- the first place, then the others
+all_front : (test : ℕ → Bool) (n : ℕ) → all_below (suc n) test ≡ (test 0 && all_below n (λ i. test (suc i)))
+unfolding all_below
+all_front test zero = and_true (test 0)
   where
-    pow_pos_256 : (n : ℕ) → 0 < 256 ^ n
-    pow_pos_256 zero = omega arith
-    pow_pos_256 (suc n) = omega (arith, pow_pos_256 n, pow-suc 256 n)
-little_below zero (x ∷ c) b h = absurd (not-suc-le-zero h)
-little_below (suc n) (x ∷ c) b h = omega (arith, little_below n c (λ i. b (suc i)) (le_of_suc-le-suc h), b 0, pow-suc 256 n)
+    and_true : (b : Bool) → b ≡ (b && true)
+    and_true true = refl
+    and_true false = refl
+all_front test (suc n) = ap (λ (b : Bool). b && test (suc n)) (all_front test n) ∙ and_assoc (test 0) (all_below n (λ i. test (suc i))) (test (suc n))
 
--- at most eight bytes make a u64
-pub little_fits : (c : List ℕ) (i : ℕ) → ((k : ℕ) → get_or c k 0 < 256) → length c ≤ 8 → little (drop i c) < 2 ^ 64
-little_fits c i b h = little_below 8 (drop i c) (rest_each c (λ n. n < 256) 0 b i) (rest_most c i 8 h)
+-- `a == b`
+pub same_is : (s t : List ℕ) → pointwise eqb s t ≡ same s t
+unfolding same all_below
+same_is [] [] = refl
+same_is [] (y ∷ t) = rw (eqb-zero-suc (length t))
+same_is (x ∷ s) [] = rw (eqb-suc-zero (length s))
+same_is (x ∷ s) (y ∷ t) =
+    ap (λ (b : Bool). eqb x y && b) (same_is s t)
+    ∙ and_turned (eqb x y) (eqb (length s) (length t)) (all_below (length s) (λ i. eqb (byte_at s i) (byte_at t i)))
+    ∙ ap (λ (b : Bool). eqb (length s) (length t) && b) (sym (all_front (λ i. eqb (byte_at (x ∷ s) i) (byte_at (y ∷ t) i)) (length s)))
+    ∙ ap (λ (b : Bool). b && all_below (suc (length s)) (λ i. eqb (byte_at (x ∷ s) i) (byte_at (y ∷ t) i))) (sym (eqb-suc-suc (length s) (length t)))
+
+-- `s.starts_with(p)`
+pub starts_is : (s p : List ℕ) → std.starts_with eqb s p ≡ starts_with s p
+unfolding starts_with all_below
+starts_is s [] = rw (le-leb 0 (length s) (omega arith))
+starts_is [] (y ∷ p) = rw (leb-suc-zero (length p))
+starts_is (x ∷ s) (y ∷ p) =
+    ap (λ (b : Bool). eqb y x && b) (starts_is s p)
+    ∙ ap (λ (b : Bool). b && starts_with s p) (eqb_turned y x)
+    ∙ and_turned (eqb x y) (leb (length p) (length s)) (all_below (length p) (λ i. eqb (byte_at s i) (byte_at p i)))
+    ∙ ap (λ (b : Bool). leb (length p) (length s) && b) (sym (all_front (λ i. eqb (byte_at (x ∷ s) i) (byte_at (y ∷ p) i)) (length p)))
+    ∙ ap (λ (b : Bool). b && all_below (suc (length p)) (λ i. eqb (byte_at (x ∷ s) i) (byte_at (y ∷ p) i))) (sym (leb-suc-suc (length p) (length s)))
+  where
+    eqb_turned : (a b : ℕ) → eqb a b ≡ eqb b a
+    eqb_turned a b = grind (arith, nat_tests)
+
+-- ---- numbers
+
+little_at : (c : List ℕ) (i : ℕ) → i < length c → little (drop i c) ≡ get_or c i 0 + 256 * little (drop (suc i) c)
+unfolding little
+little_at c i h = ap little (drop-cons c i 0 h)
+
+pub two_bytes : (s : List ℕ) → 2 ≤ length s → from_le_bytes w16 (get_or s 0 0 ∷ get_or s 1 0 ∷ []) ≡ little (take 2 s)
+unfolding little
+two_bytes [] h = absurd (omega arith)
+two_bytes (a ∷ []) h = absurd (omega arith)
+two_bytes (a ∷ b ∷ s) h = omega arith
+
+pub two_bytes_at : (s : List ℕ) (at : ℕ) → at + 2 ≤ length s → from_le_bytes w16 (get_or s at 0 ∷ get_or s (at + 1) 0 ∷ []) ≡ little (part at 2 s)
+two_bytes_at s at h =
+    let low : get_or (drop at s) 0 0 ≡ get_or s at 0 = get_or-drop at s 0 0 ∙ (let e : at + 0 ≡ at = omega arith in ap (λ (k : ℕ). get_or s k 0) e) in
+    omega (arith, low, get_or-drop at s 1 0, two_bytes (drop at s) (omega (arith, length-drop at s)))
+
+little_end : (c : List ℕ) → length c ≡ 8 → little (drop 8 c) ≡ 0
+unfolding little
+little_end c l = (let short : length c ≤ 8 = omega arith in ap little (drop_of_length-le c short))
+
+pub eight_bytes : (c : List ℕ) → length c ≡ 8 → from_le_bytes w64 (get_or c 0 0 ∷ get_or c 1 0 ∷ get_or c 2 0 ∷ get_or c 3 0 ∷ get_or c 4 0 ∷ get_or c 5 0 ∷ get_or c 6 0 ∷ get_or c 7 0 ∷ []) ≡ little c
+eight_bytes c l =
+    let end : little (drop 8 c) ≡ 0 = little_end c l in
+    omega (arith, little_at c 0 (omega arith), little_at c 1 (omega arith), little_at c 2 (omega arith), little_at c 3 (omega arith), little_at c 4 (omega arith), little_at c 5 (omega arith), little_at c 6 (omega arith), little_at c 7 (omega arith))

@@ -3,7 +3,6 @@ pub mod Rings
 pub mod ByteLaws
 pub mod BlockLaws
 pub mod LayoutLaws
-pub mod MapLaws
 pub mod Areas
 pub mod SumLaws
 pub mod Corners

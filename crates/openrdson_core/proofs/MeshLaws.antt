@@ -2,7 +2,7 @@
 use mathlib.Core.Path.{◌≡◌, refl, sym, ap, ◌∙◌}
 use mathlib.Core.Bool.{Bool, true, false, ◌&&◌, ◌||◌}
 use mathlib.Core.List.{List}
-use mathlib.Core.Option.{Option, some, none}
+use Rattle.std.specs.Prelude.{Option, Some, None}
 use Prim.Native.Nat.{ℕ, ◌+◌, ◌*◌, ◌/◌, ◌%◌, ◌<◌, ◌≤◌}
 use native.Mathlib.Omega.{arith}
 use lib.Dec.{eqb, leb, ltb}
@@ -72,7 +72,7 @@ room_for n at len e =
 -- ---- kinds
 
 -- a kind's number stands for it
-pub kind_of_number : (t : ElementType) → kind_of (kind_number t) ≡ some t
+pub kind_of_number : (t : ElementType) → kind_of (kind_number t) ≡ Some t
 unfolding kind_of
 kind_of_number Tet = refl
 kind_of_number Hex = refl
@@ -128,12 +128,12 @@ module _ (nodes : ℕ) (places : List ℕ) where
 
 -- there is such a kind where some place is used, and only there
 known_used : (o : Option ElementType) → (used_places o ≡ 0 → ⊥) → known o ≡ true
-known_used (some t) h = refl
-known_used none h = absurd (h refl)
+known_used (Some t) h = refl
+known_used None h = absurd (h refl)
 
 unknown_unused : (o : Option ElementType) → used_places o ≡ 0 → known o ≡ false
-unknown_unused (some t) h = absurd (omega (arith, used_some t))
-unknown_unused none h = refl
+unknown_unused (Some t) h = absurd (omega (arith, used_some t))
+unknown_unused None h = refl
 
 -- of an element that uses n places: it is not sound where n is 0, else its places from n on decide
 module _ (k : ℕ) (places : List ℕ) {n : ℕ} (is : n ≡ used_places (kind_of k)) where

@@ -1,6 +1,5 @@
 -- Name blocks (document 01, "What is lent"): a count of two bytes, little-endian, at most 256, then two parallel arrays of cells, the keys and the values. A block has exactly its counted length.
-use Rattle.std.specs.Prelude.{ℕ, ◌+◌, ◌*◌, ◌%◌, Bool, true, false, not, ◌&&◌, ◌||◌, List, eqb, leb, length}
-use Rattle.std.proofs.Math.Option.{Option, map}
+use Rattle.std.specs.Prelude.{ℕ, ◌+◌, ◌*◌, ◌%◌, Bool, true, false, not, ◌&&◌, ◌||◌, List, eqb, leb, length, Option, option_map}
 use Rattle.lists.specs.Lists.{part, all_below, first}
 use Rattle.openrdson_core.specs.Bytes.{byte_at, same, zeros, unpad, name_ok, little}
 use Rattle.openrdson_core.specs.declared.blocks.Cell.{Cell}
@@ -81,4 +80,4 @@ row_of s name = first (λ i. same (unpad (key_at Name s i)) name) (count s) 0
 
 -- the value of that row
 abbrev pub entry_of : Cell → List ℕ → List ℕ → Option (List ℕ)
-entry_of v s name = map (value_at Name v s) (row_of s name)
+entry_of v s name = option_map (value_at Name v s) (row_of s name)

@@ -1,6 +1,5 @@
 -- Lists of bytes: names, parts of names, and little-endian numbers. A byte is a ℕ below 256.
-use Rattle.std.specs.Prelude.{ℕ, ◌+◌, ◌*◌, Bool, ◌&&◌, List, [], ◌∷◌, eqb, leb, ltb, length, get_or, take, drop}
-use Rattle.std.proofs.Math.Option
+use Rattle.std.specs.Prelude.{ℕ, ◌+◌, ◌*◌, Bool, ◌&&◌, List, [], ◌∷◌, eqb, leb, ltb, length, get_or, take, drop, unwrap_or}
 use Rattle.lists.specs.Lists.{all_below, any_below, first}
 
 abbrev pub byte_at : List ℕ → ℕ → ℕ
@@ -16,7 +15,7 @@ zeros s = all_below (length s) (λ i. eqb (byte_at s i) 0)
 
 -- how many bytes stand before the first zero
 unfoldable pub name_length : List ℕ → ℕ
-name_length s = Option.get_or (first (λ i. eqb (byte_at s i) 0) (length s) 0) (length s)
+name_length s = unwrap_or (first (λ i. eqb (byte_at s i) 0) (length s) 0) (length s)
 
 -- a name without its padding
 abbrev pub unpad : List ℕ → List ℕ

@@ -1,14 +1,10 @@
 -- The layout: the logical name of a layer number, and the marker rule.
-use Rattle.std.specs.Prelude.{ℕ, ◌+◌, ◌-◌, ◌≤◌, ◌≡◌, Bool, ◌||◌, List, [], ◌∷◌, eqb, ℤ, pos, negsuc, length}
-use Rattle.std.proofs.Math.Option.{Option, some, none, map}
-use Rattle.lists.specs.Answer.{Answer, refused, given, unless}
-use Rattle.lists.specs.Lists.{part, first}
-use Rattle.openrdson_core.specs.Refusals.{refusal_number}
+use Rattle.std.specs.Prelude.{ℕ, ◌-◌, Bool, ◌||◌, List, [], ◌∷◌, eqb, ℤ, pos, negsuc, Option, option_map}
+use Rattle.lists.specs.Answer.{Answer, given, unless}
+use Rattle.lists.specs.Lists.{first}
 use Rattle.openrdson_core.specs.Bytes.{unpad, little, starts_with, contains}
 use Rattle.openrdson_core.specs.Blocks.{count, key_at, value_start, value_at, layer_names_ok}
 use Rattle.openrdson_core.specs.declared.blocks.Cell.TheVariants.{Number, Name}
-use Rattle.openrdson_core.specs.declared.layout.NamePart.{NamePart}
-use Rattle.openrdson_core.specs.declared.layout.NamePart.TheVariants as named
 
 -- a layer number's two bytes, as a number: its two's complement
 abbrev pub pattern_of : ℤ → ℕ
@@ -21,31 +17,14 @@ row_of_pattern s bits = first (λ i. eqb (little (key_at Number s i)) bits) (cou
 
 -- its logical name, without the padding: 14
 abbrev pub name_of_layer : List ℕ → ℤ → Option (List ℕ)
-name_of_layer s layer = map unpad (map (value_at Number Name s) (row_of_pattern s (pattern_of layer)))
+name_of_layer s layer = option_map unpad (option_map (value_at Number Name s) (row_of_pattern s (pattern_of layer)))
 
 unfoldable pub layer_name : List ℕ → ℤ → Answer (Option (List ℕ))
 layer_name s layer = unless (layer_names_ok s) 14 (given (name_of_layer s layer))
 
 -- where the logical name of a layer starts in the block
 abbrev pub start_of_name : List ℕ → ℤ → Option ℕ
-start_of_name s layer = map (value_start Number Name s) (row_of_pattern s (pattern_of layer))
-
--- the part that an enum names, and that it lies in the block
-abbrev pub name_part_answer : List ℕ → NamePart → Answer (Option (List ℕ))
-name_part_answer s (named.Part start n) = given (some (part start n s))
-name_part_answer s named.Nothing = given none
-name_part_answer s (named.Refused why) = refused (refusal_number why)
-
-abbrev pub name_part_within : List ℕ → NamePart → Type 0
-name_part_within s (named.Part start n) = start + n ≤ length s
-name_part_within s named.Nothing = Unit
-name_part_within s (named.Refused why) = Unit
-
--- a part starts there
-abbrev pub name_part_from : Option ℕ → NamePart → Type 0
-name_part_from at (named.Part start n) = at ≡ some start
-name_part_from at named.Nothing = Unit
-name_part_from at (named.Refused why) = Unit
+start_of_name s layer = option_map (value_start Number Name s) (row_of_pattern s (pattern_of layer))
 
 -- ---- markers: `seed_`, `BLOCK_`, `_prop`, `marker` and `drawing` in ASCII
 

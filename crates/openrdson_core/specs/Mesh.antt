@@ -1,9 +1,9 @@
 -- A mesh (document 01, "What is lent"): six lists, three of node coordinates and three of elements. An element is a kind, eight node places and a region number.
-use Rattle.std.specs.Prelude.{ℕ, ◌+◌, ◌*◌, Bool, true, false, ◌&&◌, ◌||◌, cond, List, eqb, leb, ltb, length, get_or, Float}
-use Rattle.std.proofs.Math.Option.{Option, some, none}
+use Rattle.std.specs.Prelude.{ℕ, ◌+◌, ◌*◌, Bool, true, false, ◌&&◌, ◌||◌, cond, List, eqb, leb, ltb, length, get_or, Float, ◌≡◌, Option, Some, None, Result, Ok, Err}
 use Rattle.lists.specs.Lists.{all_below, part}
 use Rattle.openrdson_core.specs.declared.mesh.ElementType.{ElementType}
 use Rattle.openrdson_core.specs.declared.mesh.ElementType.TheVariants.{Tet, Hex, Prism, Pyramid}
+use Rattle.openrdson_core.specs.declared.mesh.UnknownKind.{UnknownKind}
 use Rattle.openrdson_core.specs.declared.mesh.Point3.{Point3}
 use Rattle.openrdson_core.specs.declared.mesh.Counts.{Counts}
 
@@ -25,17 +25,22 @@ node_count Pyramid = 5
 
 -- the kind that a number stands for, if any
 unfoldable pub kind_of : ℕ → Option ElementType
-kind_of k = cond (eqb k 0) (some Tet) (cond (eqb k 1) (some Hex) (cond (eqb k 2) (some Prism) (cond (eqb k 3) (some Pyramid) none)))
+kind_of k = cond (eqb k 0) (Some Tet) (cond (eqb k 1) (Some Hex) (cond (eqb k 2) (Some Prism) (cond (eqb k 3) (Some Pyramid) None)))
+
+-- the kind that a number stands for, or an error where it stands for none
+abbrev pub StandsFor : ℕ → Result ElementType UnknownKind → Type 0
+StandsFor k (Ok t) = kind_of k ≡ Some t
+StandsFor k (Err e) = kind_of k ≡ None
 
 -- there is such a kind
 abbrev pub known : Option ElementType → Bool
-known (some t) = true
-known none = false
+known (Some t) = true
+known None = false
 
 -- how many of its eight places an element uses; none where there is no such kind
 abbrev pub used_places : Option ElementType → ℕ
-used_places (some t) = node_count t
-used_places none = 0
+used_places (Some t) = node_count t
+used_places None = 0
 
 -- ---- nodes
 

@@ -14,6 +14,11 @@ use Rattle.openrdson_core.specs.declared.solids.Solid.TheVariants.{Box, Prism}
 abbrev pub points_fault : ℕ → ℕ → ℕ → ℕ → Answer (Unit {0})
 points_fault m n start count = unless (eqb m n) 16 (unless (leb (start + count) m) 15 (unless (leb m 2097152) 2 (given tt)))
 
+-- that part of both
+abbrev pub part_of : List Float → List Float → ℕ → ℕ → Answer (List Float × List Float)
+part_of xs ys start count =
+    and_then (points_fault (length xs) (length ys) start count) (λ _. given (part start count xs, part start count ys))
+
 -- what a call on a part as a ring answers
 abbrev pub of_part : {A : Type 0} → List Float → List Float → ℕ → ℕ → (List Float → List Float → A) → Answer A
 of_part xs ys start count f =
@@ -22,6 +27,10 @@ of_part xs ys start count f =
 
 abbrev pub heights_in : Float → Float → Bool
 heights_in z0 z1 = at_most 20 z0 && at_most 20 z1
+
+-- two heights: 1
+abbrev pub heights_fault : Float → Float → Answer (Unit {0})
+heights_fault z0 z1 = unless (heights_in z0 z1) 1 (given tt)
 
 -- A box has no part, and looks at no point: 16, 2, then 1 for its six numbers.
 abbrev pub box_fault : ℕ → ℕ → Bbox → Float → Float → Answer (Unit {0})

@@ -1,22 +1,16 @@
 -- The stack: conductors, diffusions and vias by name, material numbers, and what the blocks must be.
-use Rattle.std.specs.Prelude.{ℕ, ◌+◌, Bool, not, ◌&&◌, ◌||◌, cond, List, Float}
-use Rattle.std.proofs.Math.Option.{Option, some, none, map}
+use Rattle.std.specs.Prelude.{ℕ, ◌+◌, Bool, not, ◌&&◌, ◌||◌, cond, List, Float, Option, Some, None, option_map, IfSome}
 use Rattle.std.specs.Float.{binary64}
 use Rattle.std.specs.Float.Ieee.{of_bits}
-use Rattle.lists.specs.Answer.{Answer, refused, given, unless}
+use Rattle.lists.specs.Answer.{Answer, given, unless}
 use Rattle.lists.specs.Lists.{part, all_below}
 use Rattle.binary64.specs.Numbers.{at_most}
-use Rattle.openrdson_core.specs.Refusals.{refusal_number}
 use Rattle.openrdson_core.specs.Bytes.{zeros, unpad, little}
 use Rattle.openrdson_core.specs.Blocks.{has_height, has_thickness, count, value_start, value_at, layer_names_ok, map_ok, stack_ok, vias_ok, row_of, entry_of}
 use Rattle.openrdson_core.specs.Maps.{spanned, span_within, span_from}
-use Rattle.openrdson_core.specs.declared.blocks.Cell.TheVariants.{Name, Figures, Ends}
-use Rattle.openrdson_core.specs.declared.tech.Figure.{Figure}
-use Rattle.openrdson_core.specs.declared.tech.Figure.TheVariants as figure
-use Rattle.openrdson_core.specs.declared.tech.StackLayer.{StackLayer}
-use Rattle.openrdson_core.specs.declared.tech.StackLayer.TheVariants as layer
+use Rattle.openrdson_core.specs.declared.blocks.Cell.TheVariants as cell
+use Rattle.openrdson_core.specs.declared.tech.Figures.{Figures}
 use Rattle.openrdson_core.specs.declared.tech.ViaLayers.{ViaLayers}
-use Rattle.openrdson_core.specs.declared.tech.ViaLayers.TheVariants as via
 
 -- ---- a stack entry's figures
 
@@ -25,14 +19,10 @@ abbrev pub float_of : List ℕ → Float
 float_of c = of_bits binary64 (little c)
 
 abbrev pub figure_of : Bool → List ℕ → Option Float
-figure_of present c = cond present (some (float_of c)) none
+figure_of present c = cond present (Some (float_of c)) None
 
 -- height and thickness, each if present
-pub record StackFigures : Type 0 where
-  pub height : Option Float
-  pub thickness : Option Float
-
-abbrev pub figures_of : List ℕ → StackFigures
+abbrev pub figures_of : List ℕ → Figures
 figures_of c = record { height = figure_of (has_height c) (part 1 8 c); thickness = figure_of (has_thickness c) (part 9 8 c) }
 
 -- a present figure is finite and at most 2^19 in size
@@ -40,20 +30,20 @@ unfoldable pub figures_in : List ℕ → Bool
 figures_in c = (not (has_height c) || at_most 19 (float_of (part 1 8 c))) && (not (has_thickness c) || at_most 19 (float_of (part 9 8 c)))
 
 unfoldable pub stack_in : List ℕ → Bool
-stack_in s = all_below (count s) (λ i. figures_in (value_at Name Figures s i))
+stack_in s = all_below (count s) (λ i. figures_in (value_at cell.Name cell.Figures s i))
 
 -- the conductor or the diffusion of a name, the first of equal names: 14, 1
-unfoldable pub stack_layer : List ℕ → List ℕ → Answer (Option StackFigures)
+unfoldable pub stack_layer : List ℕ → List ℕ → Answer (Option Figures)
 stack_layer s name =
     unless (stack_ok s) 14
     (unless (stack_in s) 1
-    (given (map figures_of (entry_of Figures s name))))
+    (given (option_map figures_of (entry_of cell.Figures s name))))
 
 -- ---- a via's layers
 
 -- a name without its padding, absent where all bytes are zero
 abbrev pub end_name : List ℕ → Option (List ℕ)
-end_name c = cond (zeros c) none (some (unpad c))
+end_name c = cond (zeros c) None (Some (unpad c))
 
 pub record ViaNames : Type 0 where
   pub bottom : Option (List ℕ)
@@ -64,17 +54,17 @@ via_names_of c = record { bottom = end_name (part 0 32 c); top = end_name (part 
 
 -- the via of a name, the first of equal names: 14
 unfoldable pub via_layers : List ℕ → List ℕ → Answer (Option ViaNames)
-via_layers s name = unless (vias_ok s) 14 (given (map via_names_of (entry_of Ends s name)))
+via_layers s name = unless (vias_ok s) 14 (given (option_map via_names_of (entry_of cell.Ends s name)))
 
 -- where the name of the bottom layer starts in the block; the top's starts 32 bytes further
 abbrev pub start_of_ends : List ℕ → List ℕ → Option ℕ
-start_of_ends s name = map (value_start Name Ends s) (row_of s name)
+start_of_ends s name = option_map (value_start cell.Name cell.Ends s) (row_of s name)
 
 -- ---- materials: conductors, diffusions, then vias; a name's number is its first place plus 1, and 0 where it has none
 
 abbrev pub number_from : ℕ → Option ℕ → ℕ → ℕ
-number_from before none other = other
-number_from before (some i) other = before + i + 1
+number_from before None other = other
+number_from before (Some i) other = before + i + 1
 
 unfoldable pub material_of : List ℕ → List ℕ → List ℕ → List ℕ → ℕ
 material_of conductors diffusions vias name =
@@ -102,30 +92,15 @@ blocks_fault names conducting via conductors diffusions vias =
     (unless (stack_in conductors) 1
     (unless (stack_in diffusions) 1 (given tt))))))))
 
--- ---- what the enums say
+-- ---- what a via's spans say
 
-abbrev pub figure_value : Figure → Option Float
-figure_value (figure.Present x) = some x
-figure_value figure.Absent = none
-
-abbrev pub stack_layer_answer : StackLayer → Answer (Option StackFigures)
-stack_layer_answer (layer.Found h t) = given (some (record { height = figure_value h; thickness = figure_value t }))
-stack_layer_answer layer.Nothing = given none
-stack_layer_answer (layer.Refused why) = refused (refusal_number why)
-
-abbrev pub via_layers_answer : List ℕ → ViaLayers → Answer (Option ViaNames)
-via_layers_answer s (via.Found b t) = given (some (record { bottom = spanned s b; top = spanned s t }))
-via_layers_answer s via.Nothing = given none
-via_layers_answer s (via.Refused why) = refused (refusal_number why)
+abbrev pub via_names : List ℕ → ViaLayers → ViaNames
+via_names s v = record { bottom = option_map (spanned s) v.bottom; top = option_map (spanned s) v.top }
 
 -- the parts lie in the block
 abbrev pub via_layers_within : List ℕ → ViaLayers → Type 0
-via_layers_within s (via.Found b t) = span_within s b × span_within s t
-via_layers_within s via.Nothing = Unit
-via_layers_within s (via.Refused why) = Unit
+via_layers_within s v = IfSome v.bottom (span_within s) × IfSome v.top (span_within s)
 
 -- the bottom's part starts there, the top's 32 bytes further
 abbrev pub via_layers_from : Option ℕ → ViaLayers → Type 0
-via_layers_from at (via.Found b t) = span_from at b × span_from (map (λ k. k + 32) at) t
-via_layers_from at via.Nothing = Unit
-via_layers_from at (via.Refused why) = Unit
+via_layers_from at v = IfSome v.bottom (span_from at) × IfSome v.top (span_from (option_map (λ k. k + 32) at))

@@ -2,25 +2,19 @@
 ghost use Rattle.std.specs.Prelude.{◌≡◌, length};
 ghost use Rattle.openrdson_core.specs.Points.{of_ring};
 ghost use Rattle.openrdson_core.specs.Bounds as spec;
-ghost use Rattle.openrdson_core.specs.Answers.{bounded_answer};
+ghost use Rattle.openrdson_core.specs.Answers.{answer};
 
-use crate::points::{Check, Point, ring_check};
+use crate::points::Point;
 use crate::refusals::Refusal;
+use crate::ring::Ring;
 
 #[repr(C)]
-#[derive(Clone, Copy)]
+#[derive(Clone, Copy, Debug, PartialEq)]
 pub struct Bbox {
     pub min_x: f64,
     pub min_y: f64,
     pub max_x: f64,
     pub max_y: f64,
-}
-
-// A bounding box, or why there is none.
-#[derive(Clone, Copy)]
-pub enum Bounded {
-    Value(Bbox),
-    Refused(Refusal),
 }
 
 impl Bbox {
@@ -44,14 +38,11 @@ impl Bbox {
     }
 
     // The bounds of a ring's points.
-    pub fn from_points(xs: &[f64], ys: &[f64]) -> Bounded
-        ensures { bounded_answer result ≡ of_ring xs.now ys.now (spec.bounds_of xs.now ys.now) }
+    pub fn from_points(xs: &[f64], ys: &[f64]) -> Result<Bbox, Refusal>
+        ensures { answer result ≡ of_ring xs.now ys.now (spec.bounds_of xs.now ys.now) }
     {
-        let checked = ring_check(xs, ys);
-        match checked {
-            Check::Refused(why) => Bounded::Refused(why),
-            Check::Fine => Bounded::Value(bounds_of_points(xs, ys)),
-        }
+        let ring = Ring::checked(xs, ys)?;
+        Ok(bounds_of(ring))
     }
 
     // The bounds moved out to the point, where it lies outside.
@@ -130,15 +121,13 @@ fn greater(x: f64, bound: f64) -> f64
 }
 
 // The empty box, extended by each point in turn.
-fn bounds_of_points(xs: &[f64], ys: &[f64]) -> Bbox
-    requires { length xs.now ≡ length ys.now }
-    ensures { result ≡ spec.bounds_of xs.now ys.now }
+#[tactic(auto, using(lists::proofs::Folds::fold_start, lists::proofs::Folds::fold_more), unfolding(crate::specs::Bounds::bounds_of))]
+pub fn bounds_of(ring: Ring) -> Bbox
+    ensures { result ≡ spec.bounds_of ring.entry.xs.now ring.entry.ys.now }
 {
     let mut bounds = Bbox::empty();
-    let mut i = 0;
-    while i < xs.len() {
-        bounds = bounds.extend_point(Point::new(xs[i], ys[i]));
-        i += 1;
+    for i in 0..ring.xs.len() {
+        bounds = bounds.extend_point(ring.point(i));
     }
     bounds
 }

@@ -1,23 +1,16 @@
 // The layout: the logical name of a layer number, and the marker rule.
-ghost use Rattle.std.specs.Prelude.{◌≡◌, true, ◌<◌};
+ghost use Rattle.std.specs.Prelude.{◌≡◌, true, ◌<◌, option_map, IfSome, IfOk};
+ghost use Rattle.lists.specs.Answer.{map_answer};
 ghost use Rattle.openrdson_core.specs.Bytes.{unpad};
 ghost use Rattle.openrdson_core.specs.Blocks.{layer_names_ok, count, value_at};
 ghost use Rattle.openrdson_core.specs.Maps.{spanned, span_within, span_from};
-ghost use Rattle.openrdson_core.specs.Answers.{row_answer};
+ghost use Rattle.openrdson_core.specs.Answers.{answer};
 ghost use Rattle.openrdson_core.specs.Layout as spec;
 
-use crate::blocks::{Cell, Row, is_block, rows};
-use crate::bytes::{contains, little, name_length, starts_with};
+use crate::blocks::{Cell, is_block, rows};
+use crate::bytes::{contains, name_length};
 use crate::maps::Span;
 use crate::refusals::Refusal;
-
-// A part of the layer-name block, or why it is not read.
-#[derive(Clone, Copy)]
-pub enum NamePart {
-    Part(usize, usize),
-    Nothing,
-    Refused(Refusal),
-}
 
 // Whether s is a layer-name block.
 pub fn is_layer_names(s: &[u8]) -> bool
@@ -26,100 +19,75 @@ pub fn is_layer_names(s: &[u8]) -> bool
     is_block(s, Cell::Number, Cell::Name, true)
 }
 
-// The two bytes of a layer number, as a number.
-fn pattern(layer: i16) -> u64
-    ensures { result ≡ spec.pattern_of layer }
-{
-    if layer < 0 {
-        let below = -1 - layer;
-        let far = below as u64;
-        return 65535 - far;
-    }
-    layer as u64
-}
-
 // The first row whose key has these bytes. For a block that has been checked.
-fn find_pattern(s: &[u8], bits: u64) -> Row
+#[tactic(auto, using(lists::proofs::Searches::search_start, lists::proofs::Searches::search_more, crate::proofs::BlockLaws::block_counts, crate::proofs::ByteLaws::two_bytes_at), unfolding(crate::specs::Layout::row_of_pattern))]
+fn find_pattern(s: &[u8], bits: u16) -> Option<usize>
     requires { layer_names_ok s.now ≡ true }
-    ensures { row_answer result ≡ spec.row_of_pattern s.now bits }
+    ensures { result ≡ spec.row_of_pattern s.now bits }
 {
-    let n = rows(s);
-    let mut at = 2;
-    let mut i = 0;
-    while i < n {
-        if little(&s[at..at + 2]) == bits {
-            return Row::At(i);
+    for i in 0..rows(s) {
+        let at = 2 + i * 2;
+        if u16::from_le_bytes([s[at], s[at + 1]]) == bits {
+            return Some(i);
         }
-        at += 2;
-        i += 1;
     }
-    Row::Nowhere
+    None
 }
 
 // The first row whose number is a layer's. It is `pub` for the crate above, which has checked the block.
-pub fn find_layer(s: &[u8], layer: i16) -> Row
+#[tactic(auto, using(crate::proofs::LayoutLaws::pattern_is))]
+pub fn find_layer(s: &[u8], layer: i16) -> Option<usize>
     requires { layer_names_ok s.now ≡ true }
-    ensures { row_answer result ≡ spec.row_of_pattern s.now (spec.pattern_of layer) }
+    ensures { result ≡ spec.row_of_pattern s.now (spec.pattern_of layer) }
 {
-    find_pattern(s, pattern(layer))
+    find_pattern(s, layer.cast_unsigned())
 }
 
 // The logical name of row i, without its padding. It is `pub` for the crate above, which has checked the block and found row i in it.
+#[tactic(auto, using(crate::proofs::BlockLaws::block_counts))]
 pub fn layer_name_at(s: &[u8], i: usize) -> &[u8]
     requires { (layer_names_ok s.now ≡ true) × (i < count s.now) }
     ensures { result.now ≡ unpad (value_at Cell.Number Cell.Name s.now i) }
 {
-    let n = rows(s);
-    let start = 2 + n * 2 + i * 32;
-    let long = name_length(&s[start..start + 32]);
-    &s[start..start + long]
+    let start = 2 + rows(s) * 2 + i * 32;
+    let cell = &s[start..start + 32];
+    &cell[..name_length(cell)]
 }
 
 // The part of the block that is a layer's logical name. For a caller that has checked the block.
-pub fn find_layer_name(s: &[u8], layer: i16) -> Span
+#[tactic(auto, using(crate::proofs::BlockLaws::block_counts, crate::proofs::LayoutLaws::layer_found))]
+pub fn find_layer_name(s: &[u8], layer: i16) -> Option<Span>
     requires { layer_names_ok s.now ≡ true }
-    ensures { (spanned s.now result ≡ spec.name_of_layer s.now layer) × span_within s.now result × span_from (spec.start_of_name s.now layer) result }
+    ensures value { option_map (spanned s.now) result ≡ spec.name_of_layer s.now layer }
+    ensures within { IfSome result (span_within s.now) }
+    ensures start { IfSome result (span_from (spec.start_of_name s.now layer)) }
 {
-    let n = rows(s);
-    let found = find_pattern(s, pattern(layer));
-    match found {
-        Row::Nowhere => Span::Empty,
-        Row::At(i) => {
-            let start = 2 + n * 2 + i * 32;
-            Span::Part(start, name_length(&s[start..start + 32]))
-        }
-    }
+    let i = find_layer(s, layer)?;
+    let start = 2 + rows(s) * 2 + i * 32;
+    let count = name_length(&s[start..start + 32]);
+    Some(Span { start, count })
 }
 
 // Where a layer's logical name stands; 14.
-pub fn layer_name(s: &[u8], layer: i16) -> NamePart
-    ensures { (spec.name_part_answer s.now result ≡ spec.layer_name s.now layer) × spec.name_part_within s.now result × spec.name_part_from (spec.start_of_name s.now layer) result }
+#[tactic(auto, unfolding(crate::specs::Layout::layer_name))]
+pub fn layer_name(s: &[u8], layer: i16) -> Result<Option<Span>, Refusal>
+    ensures value { map_answer (option_map (spanned s.now)) (answer result) ≡ spec.layer_name s.now layer }
+    ensures within { IfOk result (λ p. IfSome p (span_within s.now)) }
+    ensures start { IfOk result (λ p. IfSome p (span_from (spec.start_of_name s.now layer))) }
 {
     if !is_layer_names(s) {
-        return NamePart::Refused(Refusal::BlockDamaged);
+        return Err(Refusal::BlockDamaged);
     }
-    let found = find_layer_name(s, layer);
-    match found {
-        Span::Part(start, count) => NamePart::Part(start, count),
-        Span::Empty => NamePart::Nothing,
-    }
+    Ok(find_layer_name(s, layer))
 }
 
 // Whether a logical name is a marker's: such layers have no geometry.
+#[tactic(auto, using(crate::proofs::ByteLaws::starts_is), unfolding(crate::specs::Layout::is_marker))]
 pub fn is_marker(name: &[u8]) -> bool
     ensures { result ≡ spec.is_marker name.now }
 {
-    if starts_with(name, b"seed_") {
+    if name.starts_with(b"seed_") || name.starts_with(b"BLOCK_") {
         return true;
     }
-    if starts_with(name, b"BLOCK_") {
-        return true;
-    }
-    if contains(name, b"_prop") {
-        return true;
-    }
-    if contains(name, b"marker") {
-        return true;
-    }
-    contains(name, b"drawing")
+    contains(name, b"_prop") || contains(name, b"marker") || contains(name, b"drawing")
 }

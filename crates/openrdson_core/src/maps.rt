@@ -1,35 +1,26 @@
 // Layer maps: the physical name of a logical one.
-ghost use Rattle.std.specs.Prelude.{◌≡◌, true, ◌+◌, ◌≤◌, length};
+ghost use Rattle.std.specs.Prelude.{◌≡◌, true, option_map, is_some, IfSome, IfOk};
 ghost use Rattle.lists.specs.Answer.{map_answer};
 ghost use Rattle.openrdson_core.specs.Blocks.{map_ok};
+ghost use Rattle.openrdson_core.specs.Answers.{answer};
 ghost use Rattle.openrdson_core.specs.Maps as spec;
 
-use crate::blocks::{Cell, Row, find_row, is_block, rows};
+use crate::blocks::{Cell, find_row, is_block, rows};
 use crate::bytes::name_length;
 use crate::refusals::Refusal;
 
-// A part of a block: a start and a count.
-#[derive(Clone, Copy)]
-pub enum Span {
-    Part(usize, usize),
-    Empty,
+// A part of a block.
+#[derive(Clone, Copy, Debug, PartialEq, Eq)]
+pub struct Span {
+    pub start: usize,
+    pub count: usize,
 }
 
-// Where a physical name stands: in the conducting map or in the via map, from a start on; or why the maps are not read.
-#[derive(Clone, Copy)]
+// Where a physical name stands: in the conducting map or in the via map.
+#[derive(Clone, Copy, Debug, PartialEq, Eq)]
 pub enum NamePlace {
-    Conducting(usize, usize),
-    Via(usize, usize),
-    Nothing,
-    Refused(Refusal),
-}
-
-// Whether a physical name was found, or why the maps are not read.
-#[derive(Clone, Copy)]
-pub enum Lookup {
-    Found,
-    Nothing,
-    Refused(Refusal),
+    Conducting(Span),
+    Via(Span),
 }
 
 // Whether s is a layer map.
@@ -40,64 +31,50 @@ pub fn is_map(s: &[u8]) -> bool
 }
 
 // The part of a map that is the physical name of a logical one. For a caller that has checked the map.
-pub fn find_in_map(s: &[u8], name: &[u8]) -> Span
+#[tactic(auto, using(crate::proofs::BlockLaws::block_counts, crate::proofs::BlockLaws::row_found))]
+pub fn find_in_map(s: &[u8], name: &[u8]) -> Option<Span>
     requires { map_ok s.now ≡ true }
-    ensures { (spec.spanned s.now result ≡ spec.in_map s.now name.now) × spec.span_within s.now result × spec.span_from (spec.start_in_map s.now name.now) result }
+    ensures value { option_map (spec.spanned s.now) result ≡ spec.in_map s.now name.now }
+    ensures within { IfSome result (spec.span_within s.now) }
+    ensures start { IfSome result (spec.span_from (spec.start_in_map s.now name.now)) }
 {
-    let n = rows(s);
-    let found = find_row(s, name);
-    match found {
-        Row::Nowhere => Span::Empty,
-        Row::At(i) => {
-            let start = 2 + n * 32 + i * 32;
-            Span::Part(start, name_length(&s[start..start + 32]))
-        }
-    }
+    let i = find_row(s, name)?;
+    let start = 2 + rows(s) * 32 + i * 32;
+    let count = name_length(&s[start..start + 32]);
+    Some(Span { start, count })
 }
 
 // Where the physical name of a logical one stands.
-pub fn name_place(conducting: &[u8], via: &[u8], name: &[u8]) -> NamePlace
-    ensures { (spec.placed conducting.now via.now result ≡ spec.lookup conducting.now via.now name.now) × spec.place_within conducting.now via.now result × spec.place_from conducting.now via.now name.now result }
+#[tactic(auto, unfolding(crate::specs::Maps::lookup))]
+pub fn name_place(conducting: &[u8], via: &[u8], name: &[u8]) -> Result<Option<NamePlace>, Refusal>
+    ensures value { map_answer (option_map (spec.placed conducting.now via.now)) (answer result) ≡ spec.lookup conducting.now via.now name.now }
+    ensures within { IfOk result (λ p. IfSome p (spec.place_within conducting.now via.now)) }
+    ensures start { IfOk result (λ p. IfSome p (spec.place_from conducting.now via.now name.now)) }
 {
-    if !is_map(conducting) {
-        return NamePlace::Refused(Refusal::BlockDamaged);
-    }
-    if !is_map(via) {
-        return NamePlace::Refused(Refusal::BlockDamaged);
+    if !is_map(conducting) || !is_map(via) {
+        return Err(Refusal::BlockDamaged);
     }
     let first = find_in_map(conducting, name);
-    if let Span::Part(start, count) = first {
-        return NamePlace::Conducting(start, count);
+    if let Some(span) = first {
+        return Ok(Some(NamePlace::Conducting(span)));
     }
-    let second = find_in_map(via, name);
-    if let Span::Part(start, count) = second {
-        return NamePlace::Via(start, count);
-    }
-    NamePlace::Nothing
+    Ok(find_in_map(via, name).map(NamePlace::Via))
 }
 
 // Whether a map has a physical name for a logical one, or 14.
-pub fn look_up(conducting: &[u8], via: &[u8], name: &[u8]) -> Lookup
-    ensures { spec.lookup_answer result ≡ map_answer spec.is_some (spec.lookup conducting.now via.now name.now) }
+pub fn look_up(conducting: &[u8], via: &[u8], name: &[u8]) -> Result<bool, Refusal>
+    ensures { answer result ≡ map_answer is_some (spec.lookup conducting.now via.now name.now) }
 {
-    let place = name_place(conducting, via, name);
-    match place {
-        NamePlace::Conducting(_, _) => Lookup::Found,
-        NamePlace::Via(_, _) => Lookup::Found,
-        NamePlace::Nothing => Lookup::Nothing,
-        NamePlace::Refused(why) => Lookup::Refused(why),
-    }
+    Ok(name_place(conducting, via, name)?.is_some())
 }
 
 // The physical name, a part of one of the two maps without its padding; empty unless one has it.
 pub fn physical_name<'a>(conducting: &'a [u8], via: &'a [u8], name: &[u8]) -> &'a [u8]
     ensures { result.now ≡ spec.part_of (spec.lookup conducting.now via.now name.now) }
 {
-    let place = name_place(conducting, via, name);
-    match place {
-        NamePlace::Conducting(start, count) => &conducting[start..start + count],
-        NamePlace::Via(start, count) => &via[start..start + count],
-        NamePlace::Nothing => &conducting[0..0],
-        NamePlace::Refused(_) => &conducting[0..0],
+    match name_place(conducting, via, name) {
+        Ok(Some(NamePlace::Conducting(p))) => &conducting[p.start..p.start + p.count],
+        Ok(Some(NamePlace::Via(p))) => &via[p.start..p.start + p.count],
+        _ => &[],
     }
 }

@@ -2,9 +2,8 @@
 ghost use Rattle.std.specs.Prelude.{◌≡◌, ◌+◌, ◌*◌, ◌<◌, ◌≤◌, length, get_or};
 ghost use Rattle.lists.specs.Lists.{part};
 ghost use Rattle.openrdson_core.specs.Mesh as spec;
-ghost use Rattle.openrdson_core.specs.Answers.{kind_answer};
 
-#[derive(Clone, Copy)]
+#[derive(Clone, Copy, Debug, PartialEq, Eq)]
 pub enum ElementType {
     Tet,
     Hex,
@@ -12,22 +11,19 @@ pub enum ElementType {
     Pyramid,
 }
 
-// The kind that a number stands for, if any.
-#[derive(Clone, Copy)]
-pub enum Kind {
-    Is(ElementType),
-    Unknown,
-}
+// A number that stands for no kind.
+#[derive(Clone, Copy, Debug, PartialEq, Eq)]
+pub struct UnknownKind(pub u8);
 
 // A node's number, from 0.
-#[derive(Clone, Copy)]
+#[derive(Clone, Copy, Debug, PartialEq, Eq)]
 pub struct NodeNumber(pub u32);
 
 // What stands in a node place that is not used.
 pub const UNUSED: u32 = 4294967295;
 
 #[repr(C)]
-#[derive(Clone, Copy)]
+#[derive(Clone, Copy, Debug)]
 pub struct Point3 {
     pub x: f64,
     pub y: f64,
@@ -35,25 +31,13 @@ pub struct Point3 {
 }
 
 // How many nodes and elements a mesh has.
-#[derive(Clone, Copy)]
+#[derive(Clone, Copy, Debug, PartialEq, Eq)]
 pub struct Counts {
     pub nodes: usize,
     pub elements: usize,
 }
 
 impl ElementType {
-    // The number that stands for the kind.
-    pub fn number(self) -> u8
-        ensures { result ≡ spec.kind_number self }
-    {
-        match self {
-            ElementType::Tet => 0,
-            ElementType::Hex => 1,
-            ElementType::Prism => 2,
-            ElementType::Pyramid => 3,
-        }
-    }
-
     // How many nodes an element of the kind has.
     pub fn node_count(self) -> usize
         ensures { result ≡ spec.node_count self }
@@ -67,6 +51,38 @@ impl ElementType {
     }
 }
 
+impl From<ElementType> for u8 {
+    ghost from_gives = { λ kind n. n ≡ spec.kind_number kind };
+
+    // The number that stands for the kind.
+    fn from(kind: ElementType) -> u8 {
+        match kind {
+            ElementType::Tet => 0,
+            ElementType::Hex => 1,
+            ElementType::Prism => 2,
+            ElementType::Pyramid => 3,
+        }
+    }
+}
+
+impl TryFrom<u8> for ElementType {
+    type Error = UnknownKind;
+
+    ghost try_from_gives = { spec.StandsFor };
+
+    // The kind that a number stands for.
+    #[tactic(auto, unfolding(crate::specs::Mesh::kind_of))]
+    fn try_from(number: u8) -> Result<Self, UnknownKind> {
+        match number {
+            0 => Ok(ElementType::Tet),
+            1 => Ok(ElementType::Hex),
+            2 => Ok(ElementType::Prism),
+            3 => Ok(ElementType::Pyramid),
+            _ => Err(UnknownKind(number)),
+        }
+    }
+}
+
 impl Point3 {
     // The point (x, y, z).
     pub fn new(x: f64, y: f64, z: f64) -> Self
@@ -74,25 +90,6 @@ impl Point3 {
     {
         Self { x, y, z }
     }
-}
-
-// The kind that a number stands for.
-pub fn element_type(kind: u8) -> Kind
-    ensures { kind_answer result ≡ spec.kind_of kind }
-{
-    if kind == 0 {
-        return Kind::Is(ElementType::Tet);
-    }
-    if kind == 1 {
-        return Kind::Is(ElementType::Hex);
-    }
-    if kind == 2 {
-        return Kind::Is(ElementType::Prism);
-    }
-    if kind == 3 {
-        return Kind::Is(ElementType::Pyramid);
-    }
-    Kind::Unknown
 }
 
 // Whether a mesh's lists, by their lengths, are parallel, with eight node places a kind.
@@ -145,43 +142,43 @@ pub fn has_room(n: usize, at: usize, len: usize) -> bool
 }
 
 // Whether an element's places from n on are all unused.
+#[tactic(auto, using(crate::proofs::MeshLaws::rest_start, crate::proofs::MeshLaws::rest_more, crate::proofs::MeshLaws::rest_filled), unfolding(crate::specs::Mesh::rest_unused))]
 fn rest_unused(places: &[u32], n: usize) -> bool
-    requires { (length places.now ≡ 8) × (n ≤ 8) }
+    requires eight { length places.now ≡ 8 }
+    requires within { n ≤ 8 }
     ensures { result ≡ spec.rest_unused n places.now }
 {
-    let mut i = n;
-    while i < 8 {
+    for i in n..8 {
         if places[i] != UNUSED {
             return false;
         }
-        i += 1;
     }
     true
 }
 
 // Whether an element's first n places are below the number of nodes.
+#[tactic(auto, using(lists::proofs::Scans::all_start, lists::proofs::Scans::all_more, lists::proofs::Scans::all_fails), unfolding(crate::specs::Mesh::first_below))]
 fn first_below(places: &[u32], n: usize, nodes: usize) -> bool
-    requires { (length places.now ≡ 8) × (n ≤ 8) }
+    requires eight { length places.now ≡ 8 }
+    requires within { n ≤ 8 }
     ensures { result ≡ spec.first_below n nodes places.now }
 {
-    let mut i = 0;
-    while i < n {
+    for i in 0..n {
         if places[i] as usize >= nodes {
             return false;
         }
-        i += 1;
     }
     true
 }
 
 // How many of its places an element of a kind uses, and 0 where there is no such kind.
 pub fn used_places(kind: u8) -> usize
-    ensures { (result ≡ spec.used_places (spec.kind_of kind)) × (result ≤ 8) }
+    ensures used { result ≡ spec.used_places (spec.kind_of kind) }
+    ensures within { result ≤ 8 }
 {
-    let found = element_type(kind);
-    match found {
-        Kind::Is(kind) => kind.node_count(),
-        Kind::Unknown => 0,
+    match ElementType::try_from(kind) {
+        Ok(kind) => kind.node_count(),
+        Err(_) => 0,
     }
 }
 
@@ -195,8 +192,10 @@ fn places_of(places: &[u32], e: usize) -> &[u32]
 }
 
 // Whether element e has one of the four kinds, and the places past that kind's node count are unused (15). It is `pub` for the crate above, which has found the element within the lists.
+#[tactic(auto, using(lists::proofs::Parts::part_length, crate::proofs::MeshLaws::sound_none, crate::proofs::MeshLaws::sound_is))]
 pub fn element_sound(kinds: &[u8], places: &[u32], e: usize) -> bool
-    requires { (e < length kinds.now) × (8 * e + 8 ≤ length places.now) }
+    requires inside { e < length kinds.now }
+    requires places { 8 * e + 8 ≤ length places.now }
     ensures { result ≡ spec.sound_element (get_or kinds.now e 0) (part (8 * e) 8 places.now) }
 {
     let n = used_places(kinds[e]);
@@ -207,8 +206,10 @@ pub fn element_sound(kinds: &[u8], places: &[u32], e: usize) -> bool
 }
 
 // Whether the places that element e uses are below the number of nodes (13). It is `pub` for the crate above, as `element_sound` is.
+#[tactic(auto, using(lists::proofs::Parts::part_length))]
 pub fn element_inside(kinds: &[u8], places: &[u32], e: usize, nodes: usize) -> bool
-    requires { (e < length kinds.now) × (8 * e + 8 ≤ length places.now) }
+    requires inside { e < length kinds.now }
+    requires places { 8 * e + 8 ≤ length places.now }
     ensures { result ≡ spec.inside_element nodes (get_or kinds.now e 0) (part (8 * e) 8 places.now) }
 {
     let n = used_places(kinds[e]);
@@ -217,7 +218,8 @@ pub fn element_inside(kinds: &[u8], places: &[u32], e: usize, nodes: usize) -> b
 
 // Whether element e is valid in a mesh of so many nodes. It is `pub` for the crate above, as `element_sound` is.
 pub fn element_ok(kinds: &[u8], places: &[u32], e: usize, nodes: usize) -> bool
-    requires { (e < length kinds.now) × (8 * e + 8 ≤ length places.now) }
+    requires inside { e < length kinds.now }
+    requires places { 8 * e + 8 ≤ length places.now }
     ensures { result ≡ spec.valid_element nodes (get_or kinds.now e 0) (part (8 * e) 8 places.now) }
 {
     if !element_sound(kinds, places, e) {

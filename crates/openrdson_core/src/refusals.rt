@@ -3,7 +3,7 @@ ghost use Rattle.std.specs.Prelude.{◌≡◌};
 ghost use Rattle.openrdson_core.specs.Refusals.{refusal_number};
 
 // A case for each of document 01's numbers, in their order from 1 to 16.
-#[derive(Clone, Copy)]
+#[derive(Clone, Copy, Debug, PartialEq, Eq)]
 pub enum Refusal {
     NumberOutOfRange,
     ListTooLong,
@@ -23,12 +23,12 @@ pub enum Refusal {
     UnequalLists,
 }
 
-impl Refusal {
+impl From<Refusal> for u32 {
+    ghost from_gives = { λ why n. n ≡ refusal_number why };
+
     // Document 01's number.
-    pub fn number(self) -> u32
-        ensures { result ≡ refusal_number self }
-    {
-        match self {
+    fn from(why: Refusal) -> u32 {
+        match why {
             Refusal::NumberOutOfRange => 1,
             Refusal::ListTooLong => 2,
             Refusal::TooFewVertices => 3,

@@ -1,27 +1,24 @@
 // Solids, and the regions that carry them.
 ghost use Rattle.std.specs.Prelude.{◌≡◌};
-ghost use Rattle.lists.specs.Answer.{and_then, unless, given};
-ghost use Rattle.binary64.specs.Numbers.{◌⊖◌, ◌⊗◌, abs};
-ghost use Rattle.openrdson_core.specs.Area.{area};
-ghost use Rattle.openrdson_core.specs.Bounds.{the_bbox, bounds_of};
+ghost use Rattle.lists.specs.Answer.{map_answer};
 ghost use Rattle.openrdson_core.specs.Solids as spec;
-ghost use Rattle.openrdson_core.specs.Answers.{check_answer, measured_answer, bounded_answer};
+ghost use Rattle.openrdson_core.specs.Answers.{answer};
 
 use crate::area::polygon_area;
-use crate::bounds::{Bbox, Bounded};
-use crate::points::{Check, Measured, Point};
+use crate::bounds::Bbox;
+use crate::points::Point;
 use crate::refusals::Refusal;
 
 // A material's number, from 1; 0 is unassigned.
-#[derive(Clone, Copy)]
+#[derive(Clone, Copy, Debug, PartialEq, Eq)]
 pub struct Material(pub u32);
 
 // A polygon's number, from 0; 4,294,967,295 is none.
-#[derive(Clone, Copy)]
+#[derive(Clone, Copy, Debug, PartialEq, Eq)]
 pub struct PolygonNumber(pub u32);
 
 // A box with its six bounds, or a prism with two heights and a part of the point lists.
-#[derive(Clone, Copy)]
+#[derive(Clone, Copy, Debug, PartialEq)]
 pub enum Solid {
     Box {
         min_x: f64,
@@ -40,7 +37,7 @@ pub enum Solid {
 }
 
 // A solid with its material, its net (the caller's number, 0 for none) and the polygon it came from.
-#[derive(Clone, Copy)]
+#[derive(Clone, Copy, Debug, PartialEq)]
 pub struct SolidRegion {
     pub material_id: Material,
     pub net: u32,
@@ -54,20 +51,7 @@ impl Solid {
         ensures { result ≡ spec.z_bottom_of self }
     {
         match self {
-            Solid::Box {
-                min_x: _,
-                min_y: _,
-                max_x: _,
-                max_y: _,
-                z_bottom,
-                z_top: _,
-            } => z_bottom,
-            Solid::Prism {
-                z_bottom,
-                z_top: _,
-                start: _,
-                count: _,
-            } => z_bottom,
+            Solid::Box { z_bottom, .. } | Solid::Prism { z_bottom, .. } => z_bottom,
         }
     }
 
@@ -76,57 +60,14 @@ impl Solid {
         ensures { result ≡ spec.z_top_of self }
     {
         match self {
-            Solid::Box {
-                min_x: _,
-                min_y: _,
-                max_x: _,
-                max_y: _,
-                z_bottom: _,
-                z_top,
-            } => z_top,
-            Solid::Prism {
-                z_bottom: _,
-                z_top,
-                start: _,
-                count: _,
-            } => z_top,
+            Solid::Box { z_top, .. } | Solid::Prism { z_top, .. } => z_top,
         }
     }
 
     // The bounds of the footprint. A prism's points are a part of the lists xs and ys.
-    pub fn footprint_bbox(self, xs: &[f64], ys: &[f64]) -> Bounded
-        ensures { bounded_answer result ≡ spec.of_solid xs.now ys.now self (spec.footprint xs.now ys.now self) }
-    {
-        match self {
-            Solid::Box {
-                min_x,
-                min_y,
-                max_x,
-                max_y,
-                z_bottom,
-                z_top,
-            } => box_bounds(
-                min_x,
-                min_y,
-                max_x,
-                max_y,
-                z_bottom,
-                z_top,
-                xs.len(),
-                ys.len(),
-            ),
-            Solid::Prism {
-                z_bottom,
-                z_top,
-                start,
-                count,
-            } => prism_bounds(part_bounds(start, count, xs, ys), z_bottom, z_top),
-        }
-    }
-
-    // The volume. A prism's points are a part of the lists xs and ys.
-    pub fn volume(self, xs: &[f64], ys: &[f64]) -> Measured
-        ensures { measured_answer result ≡ spec.of_solid xs.now ys.now self (spec.volume xs.now ys.now self) }
+    #[tactic(auto, unfolding(crate::specs::Solids::footprint))]
+    pub fn footprint_bbox(self, xs: &[f64], ys: &[f64]) -> Result<Bbox, Refusal>
+        ensures { answer result ≡ spec.of_solid xs.now ys.now self (spec.footprint xs.now ys.now self) }
     {
         match self {
             Solid::Box {
@@ -137,161 +78,127 @@ impl Solid {
                 z_bottom,
                 z_top,
             } => {
-                let bounds = box_bounds(
+                let sides = Bbox {
                     min_x,
                     min_y,
                     max_x,
                     max_y,
-                    z_bottom,
-                    z_top,
-                    xs.len(),
-                    ys.len(),
-                );
-                box_volume(bounds, z_bottom, z_top)
+                };
+                box_check(sides, z_bottom, z_top, xs.len(), ys.len())?;
+                Ok(sides)
             }
             Solid::Prism {
                 z_bottom,
                 z_top,
                 start,
                 count,
-            } => prism_volume(part_area(start, count, xs, ys), z_bottom, z_top),
+            } => {
+                let (part_x, part_y) = part_of(start, count, xs, ys)?;
+                let bounds = Bbox::from_points(part_x, part_y)?;
+                heights_check(z_bottom, z_top)?;
+                Ok(bounds)
+            }
+        }
+    }
+
+    // The volume. A prism's points are a part of the lists xs and ys.
+    #[tactic(auto, unfolding(crate::specs::Solids::volume))]
+    pub fn volume(self, xs: &[f64], ys: &[f64]) -> Result<f64, Refusal>
+        ensures { answer result ≡ spec.of_solid xs.now ys.now self (spec.volume xs.now ys.now self) }
+    {
+        match self {
+            Solid::Box {
+                min_x,
+                min_y,
+                max_x,
+                max_y,
+                z_bottom,
+                z_top,
+            } => {
+                let sides = Bbox {
+                    min_x,
+                    min_y,
+                    max_x,
+                    max_y,
+                };
+                box_check(sides, z_bottom, z_top, xs.len(), ys.len())?;
+                let volume = (max_x - min_x) * (max_y - min_y) * (z_top - z_bottom);
+                Ok(binary64::abs(volume))
+            }
+            Solid::Prism {
+                z_bottom,
+                z_top,
+                start,
+                count,
+            } => {
+                let (part_x, part_y) = part_of(start, count, xs, ys)?;
+                let area = polygon_area(part_x, part_y)?;
+                heights_check(z_bottom, z_top)?;
+                Ok(area * binary64::abs(z_top - z_bottom))
+            }
         }
     }
 }
 
 impl SolidRegion {
     // The volume of its solid.
-    pub fn volume(self, xs: &[f64], ys: &[f64]) -> Measured
-        ensures { measured_answer result ≡ spec.of_solid xs.now ys.now self.solid (spec.volume xs.now ys.now self.solid) }
+    pub fn volume(self, xs: &[f64], ys: &[f64]) -> Result<f64, Refusal>
+        ensures { answer result ≡ spec.of_solid xs.now ys.now self.solid (spec.volume xs.now ys.now self.solid) }
     {
-        let solid = self.solid;
-        solid.volume(xs, ys)
+        self.solid.volume(xs, ys)
     }
 }
 
 // 16, 15 and 2, of point lists of m and n entries and a part of them.
-fn points_check(m: usize, n: usize, start: u32, count: u32) -> Check
-    ensures { check_answer result ≡ spec.points_fault m n start count }
+fn points_check(m: usize, n: usize, start: u32, count: u32) -> Result<(), Refusal>
+    ensures { answer result ≡ spec.points_fault m n start count }
 {
     if m != n {
-        return Check::Refused(Refusal::UnequalLists);
+        return Err(Refusal::UnequalLists);
     }
     if start as usize + count as usize > m {
-        return Check::Refused(Refusal::OutsideList);
+        return Err(Refusal::OutsideList);
     }
     if m > 2097152 {
-        return Check::Refused(Refusal::ListTooLong);
+        return Err(Refusal::ListTooLong);
     }
-    Check::Fine
+    Ok(())
 }
 
-fn heights_in_range(z_bottom: f64, z_top: f64) -> bool
-    ensures { result ≡ spec.heights_in z_bottom z_top }
+// 1, of two heights.
+fn heights_check(z_bottom: f64, z_top: f64) -> Result<(), Refusal>
+    ensures { answer result ≡ spec.heights_fault z_bottom z_top }
 {
-    binary64::coordinate_in_range(z_bottom) & binary64::coordinate_in_range(z_top)
+    if !(binary64::coordinate_in_range(z_bottom) & binary64::coordinate_in_range(z_top)) {
+        return Err(Refusal::NumberOutOfRange);
+    }
+    Ok(())
 }
 
-// The bounds of a box, where nothing is against it beside point lists of m and n entries.
-fn box_bounds(
-    min_x: f64,
-    min_y: f64,
-    max_x: f64,
-    max_y: f64,
-    z_bottom: f64,
-    z_top: f64,
-    m: usize,
-    n: usize,
-) -> Bounded
-    ensures { bounded_answer result ≡ and_then (spec.box_fault m n (the_bbox min_x min_y max_x max_y) z_bottom z_top) (λ _. given (the_bbox min_x min_y max_x max_y)) }
+// Whether anything is against a box beside point lists of m and n entries: 16, 2, 1.
+fn box_check(sides: Bbox, z_bottom: f64, z_top: f64, m: usize, n: usize) -> Result<(), Refusal>
+    ensures { answer result ≡ spec.box_fault m n sides z_bottom z_top }
 {
-    let checked = points_check(m, n, 0, 0);
-    match checked {
-        Check::Refused(why) => Bounded::Refused(why),
-        Check::Fine => {
-            let low = Point::new(min_x, min_y);
-            let high = Point::new(max_x, max_y);
-            if !(low.is_in_range() & high.is_in_range() & heights_in_range(z_bottom, z_top)) {
-                return Bounded::Refused(Refusal::NumberOutOfRange);
-            }
-            Bounded::Value(Bbox {
-                min_x,
-                min_y,
-                max_x,
-                max_y,
-            })
-        }
+    points_check(m, n, 0, 0)?;
+    let low = Point::new(sides.min_x, sides.min_y);
+    let high = Point::new(sides.max_x, sides.max_y);
+    if !(low.is_in_range() & high.is_in_range()) {
+        return Err(Refusal::NumberOutOfRange);
     }
+    heights_check(z_bottom, z_top)
 }
 
-// A box's volume is that of its bounds times its height.
-fn box_volume(bounds: Bounded, z_bottom: f64, z_top: f64) -> Measured
-    ensures { measured_answer result ≡ and_then (bounded_answer bounds) (λ b. given (abs ((b.max_x ⊖ b.min_x) ⊗ (b.max_y ⊖ b.min_y) ⊗ (z_top ⊖ z_bottom)))) }
+// A part of the point lists: 16, 15, 2.
+fn part_of<'a>(
+    start: u32,
+    count: u32,
+    xs: &'a [f64],
+    ys: &'a [f64],
+) -> Result<(&'a [f64], &'a [f64]), Refusal>
+    ensures { map_answer (λ p. (p.0.now, p.1.now)) (answer result) ≡ spec.part_of xs.now ys.now start count }
 {
-    match bounds {
-        Bounded::Refused(why) => Measured::Refused(why),
-        Bounded::Value(b) => {
-            let volume = (b.max_x - b.min_x) * (b.max_y - b.min_y) * (z_top - z_bottom);
-            Measured::Value(binary64::abs(volume))
-        }
-    }
-}
-
-// The bounds of a part of the point lists.
-fn part_bounds(start: u32, count: u32, xs: &[f64], ys: &[f64]) -> Bounded
-    ensures { bounded_answer result ≡ spec.of_part xs.now ys.now start count bounds_of }
-{
-    let checked = points_check(xs.len(), ys.len(), start, count);
-    match checked {
-        Check::Refused(why) => Bounded::Refused(why),
-        Check::Fine => {
-            let first = start as usize;
-            let end = first + count as usize;
-            Bbox::from_points(&xs[first..end], &ys[first..end])
-        }
-    }
-}
-
-// The area of a part of the point lists.
-fn part_area(start: u32, count: u32, xs: &[f64], ys: &[f64]) -> Measured
-    ensures { measured_answer result ≡ spec.of_part xs.now ys.now start count area }
-{
-    let checked = points_check(xs.len(), ys.len(), start, count);
-    match checked {
-        Check::Refused(why) => Measured::Refused(why),
-        Check::Fine => {
-            let first = start as usize;
-            let end = first + count as usize;
-            polygon_area(&xs[first..end], &ys[first..end])
-        }
-    }
-}
-
-// A prism's bounds are its part's, where its heights are in range.
-fn prism_bounds(part: Bounded, z_bottom: f64, z_top: f64) -> Bounded
-    ensures { bounded_answer result ≡ and_then (bounded_answer part) (λ b. unless (spec.heights_in z_bottom z_top) 1 (given b)) }
-{
-    match part {
-        Bounded::Refused(why) => Bounded::Refused(why),
-        Bounded::Value(bounds) => {
-            if !heights_in_range(z_bottom, z_top) {
-                return Bounded::Refused(Refusal::NumberOutOfRange);
-            }
-            Bounded::Value(bounds)
-        }
-    }
-}
-
-// A prism's volume is its part's area times its height, where its heights are in range.
-fn prism_volume(part: Measured, z_bottom: f64, z_top: f64) -> Measured
-    ensures { measured_answer result ≡ and_then (measured_answer part) (λ a. unless (spec.heights_in z_bottom z_top) 1 (given (a ⊗ abs (z_top ⊖ z_bottom)))) }
-{
-    match part {
-        Measured::Refused(why) => Measured::Refused(why),
-        Measured::Value(area) => {
-            if !heights_in_range(z_bottom, z_top) {
-                return Measured::Refused(Refusal::NumberOutOfRange);
-            }
-            Measured::Value(area * binary64::abs(z_top - z_bottom))
-        }
-    }
+    points_check(xs.len(), ys.len(), start, count)?;
+    let first = start as usize;
+    let end = first + count as usize;
+    Ok((&xs[first..end], &ys[first..end]))
 }

@@ -1,38 +1,38 @@
 // A call's answer in the words of the file.
-use openrdson_core::{Bounded, Judged, Measured};
-use records::{Answer, bits};
+use openrdson_core::{Bbox, Refusal};
+use records::{Answer, Entry};
 
 // A float, by its bits.
 pub fn float(x: f64) -> Answer {
-    Answer::whole(bits(x))
+    Answer::whole(x.word())
 }
 
 // An area or a volume, or why there is none.
-pub fn measured(given: Measured) -> Answer {
+pub fn measured(given: Result<f64, Refusal>) -> Answer {
     match given {
-        Measured::Refused(why) => Answer::refused(why.number() as u64),
-        Measured::Value(x) => float(x),
+        Ok(x) => float(x),
+        Err(why) => Answer::refused(u64::from(u32::from(why))),
     }
 }
 
 // Yes is 1, no is 0.
-pub fn judged(given: Judged) -> Answer {
+pub fn judged(given: Result<bool, Refusal>) -> Answer {
     match given {
-        Judged::Refused(why) => Answer::refused(why.number() as u64),
-        Judged::Value(yes) => Answer::whole(yes as u64),
+        Ok(yes) => Answer::whole(u64::from(yes)),
+        Err(why) => Answer::refused(u64::from(u32::from(why))),
     }
 }
 
 // Four bounds, by their bits, or why there are none.
-pub fn bounded(given: Bounded) -> Answer {
+pub fn bounded(given: Result<Bbox, Refusal>) -> Answer {
     match given {
-        Bounded::Refused(why) => Answer::refused(why.number() as u64),
-        Bounded::Value(b) => Answer::given(
-            bits(b.min_x),
-            bits(b.min_y),
-            bits(b.max_x),
-            bits(b.max_y),
+        Ok(b) => Answer::given(
+            b.min_x.word(),
+            b.min_y.word(),
+            b.max_x.word(),
+            b.max_y.word(),
             0,
         ),
+        Err(why) => Answer::refused(u64::from(u32::from(why))),
     }
 }

@@ -1,67 +1,134 @@
-// The calls, on what a record gives them.
+// The calls, and a record of each: the call's number, the lists' lengths, eight parameters, the lists, and the answer.
 use crate::answers::{bounded, float, judged, measured};
 use openrdson_core::{Bbox, Solid};
-use records::{Answer, complement, float_at, narrow, word};
+use records::{Answer, Record};
+use std::fmt;
 
-// Calls 1 to 5, on a ring.
-fn of_ring(call: u64, xs: &[f64], ys: &[f64]) -> Answer {
-    match call {
-        1 => measured(openrdson_core::polygon_signed_area(xs, ys)),
-        2 => measured(openrdson_core::polygon_area(xs, ys)),
-        3 => judged(openrdson_core::is_ccw(xs, ys)),
-        4 => judged(openrdson_core::is_axis_aligned_rectangle(xs, ys)),
-        _ => bounded(Bbox::from_points(xs, ys)),
+#[derive(Clone, Copy)]
+pub enum Call {
+    SignedArea = 1,
+    Area,
+    IsCcw,
+    IsRectangle,
+    PointsBounds,
+    BoxVolume,
+    PrismVolume,
+    BoxBounds,
+    PrismBounds,
+    Sqrt,
+    Abs,
+    CeilCapped,
+    NearestCapped,
+}
+
+impl fmt::Display for Call {
+    fn fmt<W: fmt::Write>(&self, f: &mut fmt::Formatter<W>) -> fmt::Result {
+        f.write_str(match self {
+            Call::SignedArea => "polygon_signed_area",
+            Call::Area => "polygon_area",
+            Call::IsCcw => "is_ccw",
+            Call::IsRectangle => "is_axis_aligned_rectangle",
+            Call::PointsBounds => "bbox_from_points",
+            Call::BoxVolume => "box_volume",
+            Call::PrismVolume => "prism_volume",
+            Call::BoxBounds => "box_footprint_bbox",
+            Call::PrismBounds => "prism_footprint_bbox",
+            Call::Sqrt => "sqrt",
+            Call::Abs => "abs",
+            Call::CeilCapped => "ceil_capped",
+            Call::NearestCapped => "nearest_capped",
+        })
     }
 }
 
-fn box_of(record: &[u8]) -> Solid {
+fn the_box(record: Record<'_>) -> Solid {
     Solid::Box {
-        min_x: float_at(record, 3),
-        min_y: float_at(record, 4),
-        max_x: float_at(record, 5),
-        max_y: float_at(record, 6),
-        z_bottom: float_at(record, 7),
-        z_top: float_at(record, 8),
+        min_x: record.at(3),
+        min_y: record.at(4),
+        max_x: record.at(5),
+        max_y: record.at(6),
+        z_bottom: record.at(7),
+        z_top: record.at(8),
     }
 }
 
-fn prism_of(record: &[u8]) -> Solid {
+fn the_prism(record: Record<'_>) -> Solid {
     Solid::Prism {
-        z_bottom: float_at(record, 3),
-        z_top: float_at(record, 4),
-        start: narrow(word(record, 5)),
-        count: narrow(word(record, 6)),
+        z_bottom: record.at(3),
+        z_top: record.at(4),
+        start: record.at(5),
+        count: record.at(6),
     }
 }
 
-// Calls 6 to 9, on a solid.
-fn of_solid(call: u64, record: &[u8], xs: &[f64], ys: &[f64]) -> Answer {
-    match call {
-        6 => measured(box_of(record).volume(xs, ys)),
-        7 => measured(prism_of(record).volume(xs, ys)),
-        8 => bounded(box_of(record).footprint_bbox(xs, ys)),
-        _ => bounded(prism_of(record).footprint_bbox(xs, ys)),
+impl Call {
+    // The answer on a record's parameters and lists.
+    fn answer(self, record: Record<'_>, xs: &[f64], ys: &[f64]) -> Answer {
+        let x = record.at(3);
+        match self {
+            Call::SignedArea => measured(openrdson_core::polygon_signed_area(xs, ys)),
+            Call::Area => measured(openrdson_core::polygon_area(xs, ys)),
+            Call::IsCcw => judged(openrdson_core::is_ccw(xs, ys)),
+            Call::IsRectangle => judged(openrdson_core::is_axis_aligned_rectangle(xs, ys)),
+            Call::PointsBounds => bounded(Bbox::from_points(xs, ys)),
+            Call::BoxVolume => measured(the_box(record).volume(xs, ys)),
+            Call::PrismVolume => measured(the_prism(record).volume(xs, ys)),
+            Call::BoxBounds => bounded(the_box(record).footprint_bbox(xs, ys)),
+            Call::PrismBounds => bounded(the_prism(record).footprint_bbox(xs, ys)),
+            Call::Sqrt => float(binary64::sqrt(x)),
+            Call::Abs => float(binary64::abs(x)),
+            Call::CeilCapped => Answer::whole(binary64::ceil_capped(x)),
+            Call::NearestCapped => Answer::whole(binary64::nearest_capped(x).cast_unsigned()),
+        }
     }
 }
 
-// Calls 10 to 13, on a number.
-fn of_number(call: u64, x: f64) -> Answer {
-    match call {
-        10 => float(binary64::sqrt(x)),
-        11 => float(binary64::abs(x)),
-        12 => Answer::whole(binary64::ceil_capped(x)),
-        _ => Answer::whole(complement(binary64::nearest_capped(x))),
-    }
-}
+impl records::Call for Call {
+    const ALL: &'static [Self] = &[
+        Call::SignedArea,
+        Call::Area,
+        Call::IsCcw,
+        Call::IsRectangle,
+        Call::PointsBounds,
+        Call::BoxVolume,
+        Call::PrismVolume,
+        Call::BoxBounds,
+        Call::PrismBounds,
+        Call::Sqrt,
+        Call::Abs,
+        Call::CeilCapped,
+        Call::NearestCapped,
+    ];
 
-// The answer of the record's call.
-pub fn answer(record: &[u8], xs: &[f64], ys: &[f64]) -> Answer {
-    let call = word(record, 0);
-    if call <= 5 {
-        return of_ring(call, xs, ys);
+    ghost HEAD = { 24 };
+
+    const HEAD: usize = 24;
+
+    ghost LARGEST = { 16512 };
+
+    const LARGEST: usize = 16512;
+
+    fn number(self) -> u64 {
+        self as u64
     }
-    if call <= 9 {
-        return of_solid(call, record, xs, ys);
+
+    fn size_of(record: Record<'_>) -> usize {
+        (record.length(1) + record.length(2) + 16) * 8
     }
-    of_number(call, float_at(record, 3))
+
+    // Whether the lists are of at most 1,024 entries, and a prism's start and count are below 2^32.
+    fn is_sound(self, record: Record<'_>) -> bool {
+        let most = u64::from(u32::MAX);
+        let is_prism = matches!(self, Call::PrismVolume | Call::PrismBounds);
+        record.are_within(1..3, 1024) && (!is_prism || record.are_within(5..7, most))
+    }
+
+    fn is_answered(self, record: Record<'_>) -> bool {
+        let m = record.length(1);
+        let n = record.length(2);
+        let xs = record.list::<f64, 1024>(11, m);
+        let ys = record.list::<f64, 1024>(11 + m, n);
+        self.answer(record, &xs, &ys)
+            .is_recorded(record.after(11 + m + n))
+    }
 }

@@ -3,14 +3,13 @@
 
 mod answers;
 mod calls;
-mod report;
-mod run;
 
+use calls::Call;
+use records::Tally;
 use std::io;
 
 fn main(rt: HostRuntime) -> io::Result<()> {
-    let mut cases = [0u64; 14];
-    let mut mismatches = [0u64; 14];
-    run::replay(&mut rt.stdin(), &mut cases, &mut mismatches)?;
-    report::print_report(&rt, &cases, &mismatches)
+    let mut buffer = [0u8; 16512];
+    let mut tallies = [Tally::NONE; 13];
+    records::run::<Call>(&rt, &mut rt.stdin(), &mut buffer, &mut tallies)
 }

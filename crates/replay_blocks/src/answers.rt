@@ -1,59 +1,30 @@
 // A call's answer in the words of the file.
-use openrdson_core::{
-    Check, Figure, Lookup, NamePart, NamePlace, Numbered, Span, StackLayer, ViaLayers,
-};
-use records::{Answer, bits};
+use openrdson_core::{Figures, Material, NamePlace, Refusal, Span, ViaLayers};
+use records::{Answer, Entry};
 
 // Whether a part lies in a block of n bytes.
-fn is_within(n: usize, start: usize, count: usize) -> bool {
-    if start > n {
-        return false;
-    }
-    count <= n - start
+fn is_within(n: usize, part: Span) -> bool {
+    part.start <= n && part.count <= n - part.start
 }
 
-// A part's start and count in a block of n bytes.
-#[derive(Clone, Copy)]
-struct Place {
-    fine: bool,
-    start: u64,
-    count: u64,
-}
-
-impl Place {
-    fn of(n: usize, span: Span) -> Self {
-        match span {
-            Span::Part(start, count) => Self {
-                fine: is_within(n, start, count),
-                start: start as u64,
-                count: count as u64,
-            },
-            Span::Empty => Self {
-                fine: true,
-                start: 0,
-                count: 0,
-            },
-        }
+// A part's start and count, 0 where there is none, and none outside a block of n bytes.
+fn place(n: usize, part: Option<Span>) -> Option<(u64, u64)> {
+    match part {
+        Some(part) => is_within(n, part).then_some((part.start as u64, part.count as u64)),
+        None => Some((0, 0)),
     }
 }
 
 // A figure's presence and bits.
-#[derive(Clone, Copy)]
-struct Shown {
-    has: u64,
-    value: u64,
+fn shown(figure: Option<f64>) -> (u64, u64) {
+    match figure {
+        Some(x) => (1, x.word()),
+        None => (0, 0),
+    }
 }
 
-impl Shown {
-    fn of(figure: Figure) -> Self {
-        match figure {
-            Figure::Present(x) => Self {
-                has: 1,
-                value: bits(x),
-            },
-            Figure::Absent => Self { has: 0, value: 0 },
-        }
-    }
+fn refused(why: Refusal) -> Answer {
+    Answer::refused(u64::from(u32::from(why)))
 }
 
 // The answer of a part outside its block: no record has this status.
@@ -62,96 +33,83 @@ fn outside() -> Answer {
 }
 
 // 0 where nothing is against the blocks.
-pub fn checked(given: Check) -> Answer {
+pub fn checked(given: Result<(), Refusal>) -> Answer {
     match given {
-        Check::Refused(why) => Answer::refused(why.number() as u64),
-        Check::Fine => Answer::whole(0),
+        Ok(()) => Answer::whole(0),
+        Err(why) => refused(why),
     }
 }
 
 // Found is 1, not found is 0.
-pub fn looked_up(given: Lookup) -> Answer {
+pub fn looked_up(given: Result<bool, Refusal>) -> Answer {
     match given {
-        Lookup::Refused(why) => Answer::refused(why.number() as u64),
-        Lookup::Found => Answer::whole(1),
-        Lookup::Nothing => Answer::whole(0),
+        Ok(found) => Answer::whole(u64::from(found)),
+        Err(why) => refused(why),
     }
 }
 
 // A part of block 1 or 2, which has n bytes.
-fn part(block: u64, n: usize, start: usize, count: usize) -> Answer {
-    if !is_within(n, start, count) {
+fn part(block: u64, n: usize, part: Span) -> Answer {
+    if !is_within(n, part) {
         return outside();
     }
-    Answer::given(block, start as u64, count as u64, 0, 0)
-}
-
-// A part of a block of n bytes.
-fn span(n: usize, start: usize, count: usize) -> Answer {
-    if !is_within(n, start, count) {
-        return outside();
-    }
-    Answer::given(start as u64, count as u64, 0, 0, 0)
+    Answer::given(block, part.start as u64, part.count as u64, 0, 0)
 }
 
 // A name in a conducting map of m bytes or in a via map of n bytes.
-pub fn named(given: NamePlace, m: usize, n: usize) -> Answer {
+pub fn named(given: Result<Option<NamePlace>, Refusal>, m: usize, n: usize) -> Answer {
     match given {
-        NamePlace::Refused(why) => Answer::refused(why.number() as u64),
-        NamePlace::Conducting(start, count) => part(1, m, start, count),
-        NamePlace::Via(start, count) => part(2, n, start, count),
-        NamePlace::Nothing => Answer::whole(0),
+        Ok(Some(NamePlace::Conducting(span))) => part(1, m, span),
+        Ok(Some(NamePlace::Via(span))) => part(2, n, span),
+        Ok(None) => Answer::whole(0),
+        Err(why) => refused(why),
     }
 }
 
 // A layer's name in a block of n bytes.
-pub fn layer_named(given: NamePart, n: usize) -> Answer {
+pub fn layer_named(given: Result<Option<Span>, Refusal>, n: usize) -> Answer {
     match given {
-        NamePart::Refused(why) => Answer::refused(why.number() as u64),
-        NamePart::Part(start, count) => span(n, start, count),
-        NamePart::Nothing => Answer::whole(0),
+        Ok(span) => match place(n, span) {
+            Some((start, count)) => Answer::given(start, count, 0, 0, 0),
+            None => outside(),
+        },
+        Err(why) => refused(why),
     }
 }
 
-// 1, and for each figure whether it is present and its bits.
-fn figures(height: Figure, thickness: Figure) -> Answer {
-    let first = Shown::of(height);
-    let second = Shown::of(thickness);
-    Answer::given(1, first.has, first.value, second.has, second.value)
-}
-
-// The figures of a layer, or 0 where there is no such layer.
-pub fn of_stack(given: StackLayer) -> Answer {
+// 1, and for each figure whether it is present and its bits; 0 where there is no such layer.
+pub fn of_stack(given: Result<Option<Figures>, Refusal>) -> Answer {
     match given {
-        StackLayer::Refused(why) => Answer::refused(why.number() as u64),
-        StackLayer::Found(height, thickness) => figures(height, thickness),
-        StackLayer::Nothing => Answer::whole(0),
+        Ok(Some(figures)) => {
+            let (has_height, height) = shown(figures.height);
+            let (has_thickness, thickness) = shown(figures.thickness);
+            Answer::given(1, has_height, height, has_thickness, thickness)
+        }
+        Ok(None) => Answer::whole(0),
+        Err(why) => refused(why),
     }
 }
 
-// 1, and each end's start and count.
-fn ends(bottom: Span, top: Span, n: usize) -> Answer {
-    let first = Place::of(n, bottom);
-    let second = Place::of(n, top);
-    if !(first.fine & second.fine) {
-        return outside();
-    }
-    Answer::given(1, first.start, first.count, second.start, second.count)
+// 1, and each end's start and count, unless one is outside its block.
+fn ends(layers: ViaLayers, n: usize) -> Option<Answer> {
+    let (bottom, below) = place(n, layers.bottom)?;
+    let (top, above) = place(n, layers.top)?;
+    Some(Answer::given(1, bottom, below, top, above))
 }
 
 // The layers of a via, parts of a block of n bytes.
-pub fn of_via(given: ViaLayers, n: usize) -> Answer {
+pub fn of_via(given: Result<Option<ViaLayers>, Refusal>, n: usize) -> Answer {
     match given {
-        ViaLayers::Refused(why) => Answer::refused(why.number() as u64),
-        ViaLayers::Found(bottom, top) => ends(bottom, top, n),
-        ViaLayers::Nothing => Answer::whole(0),
+        Ok(Some(layers)) => ends(layers, n).unwrap_or(outside()),
+        Ok(None) => Answer::whole(0),
+        Err(why) => refused(why),
     }
 }
 
 // A material's number.
-pub fn numbered(given: Numbered) -> Answer {
+pub fn numbered(given: Result<Material, Refusal>) -> Answer {
     match given {
-        Numbered::Refused(why) => Answer::refused(why.number() as u64),
-        Numbered::Value(m) => Answer::whole(m.0 as u64),
+        Ok(material) => Answer::whole(u64::from(material.0)),
+        Err(why) => refused(why),
     }
 }

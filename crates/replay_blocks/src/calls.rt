@@ -1,23 +1,42 @@
-// The calls, on what a record gives them.
-use crate::answers::{checked, layer_named, looked_up, named, numbered, of_stack, of_via};
-use crate::slices::slice;
-use records::{Answer, short, word};
+// The calls, and a record of each: the call's number, the slices' lengths, the layer's number, the slices, and the answer.
+ghost use Rattle.std.specs.Prelude.{◌≤◌};
 
-// How many slices a call takes.
-pub fn slices_of(call: u64) -> usize {
-    match call {
-        14 => 6,
-        15 => 3,
-        16 => 3,
-        17 => 1,
-        18 => 2,
-        19 => 2,
-        20 => 4,
-        _ => 1,
+use crate::answers::{checked, layer_named, looked_up, named, numbered, of_stack, of_via};
+use crate::slices::{answer_place, size_of, slice};
+use openrdson_core::{
+    is_marker, layer_name, look_up, material_number, name_place, stack_layer, via_layers,
+};
+use records::{Answer, Entry, Record};
+use std::fmt;
+
+#[derive(Clone, Copy)]
+pub enum Call {
+    CheckBlocks = 14,
+    LookUp,
+    PhysicalName,
+    LayerName,
+    StackLayer,
+    ViaLayers,
+    MaterialNumber,
+    IsMarker,
+}
+
+impl fmt::Display for Call {
+    fn fmt<W: fmt::Write>(&self, f: &mut fmt::Formatter<W>) -> fmt::Result {
+        f.write_str(match self {
+            Call::CheckBlocks => "check_blocks",
+            Call::LookUp => "look_up",
+            Call::PhysicalName => "physical_name",
+            Call::LayerName => "layer_name",
+            Call::StackLayer => "stack_layer",
+            Call::ViaLayers => "via_layers",
+            Call::MaterialNumber => "material_number",
+            Call::IsMarker => "is_marker",
+        })
     }
 }
 
-fn check_blocks(record: &[u8]) -> Answer {
+fn check_blocks(record: Record<'_>) -> Answer {
     let names = slice(record, 1);
     let conducting = slice(record, 2);
     let via = slice(record, 3);
@@ -28,59 +47,88 @@ fn check_blocks(record: &[u8]) -> Answer {
     checked(given)
 }
 
-fn look_up(record: &[u8]) -> Answer {
-    let conducting = slice(record, 1);
-    let via = slice(record, 2);
-    looked_up(openrdson_core::look_up(conducting, via, slice(record, 3)))
+impl Call {
+    // How many slices the call takes.
+    fn slices(self) -> usize
+        ensures { result ≤ 7 }
+    {
+        match self {
+            Call::CheckBlocks => 6,
+            Call::LookUp | Call::PhysicalName => 3,
+            Call::LayerName | Call::IsMarker => 1,
+            Call::StackLayer | Call::ViaLayers => 2,
+            Call::MaterialNumber => 4,
+        }
+    }
+
+    // Whether the layer's number is an i16 where the call takes one, and 0 elsewhere.
+    fn takes(self, layer: u64) -> bool {
+        match self {
+            Call::LayerName => i16::of(layer).word() == layer,
+            _ => layer == 0,
+        }
+    }
+
+    // The answer on a record's slices.
+    fn answer(self, record: Record<'_>) -> Answer {
+        let first = slice(record, 1);
+        let second = slice(record, 2);
+        let third = slice(record, 3);
+        match self {
+            Call::CheckBlocks => check_blocks(record),
+            Call::LookUp => looked_up(look_up(first, second, third)),
+            Call::PhysicalName => {
+                named(name_place(first, second, third), first.len(), second.len())
+            }
+            Call::LayerName => layer_named(layer_name(first, record.at(8)), first.len()),
+            Call::StackLayer => of_stack(stack_layer(first, second)),
+            Call::ViaLayers => of_via(via_layers(first, second), first.len()),
+            Call::MaterialNumber => {
+                numbered(material_number(first, second, third, slice(record, 4)))
+            }
+            Call::IsMarker => Answer::whole(u64::from(is_marker(first))),
+        }
+    }
 }
 
-fn name_place(record: &[u8]) -> Answer {
-    let conducting = slice(record, 1);
-    let via = slice(record, 2);
-    let place = openrdson_core::name_place(conducting, via, slice(record, 3));
-    named(place, conducting.len(), via.len())
-}
+impl records::Call for Call {
+    const ALL: &'static [Self] = &[
+        Call::CheckBlocks,
+        Call::LookUp,
+        Call::PhysicalName,
+        Call::LayerName,
+        Call::StackLayer,
+        Call::ViaLayers,
+        Call::MaterialNumber,
+        Call::IsMarker,
+    ];
 
-fn layer_name(record: &[u8]) -> Answer {
-    let names = slice(record, 1);
-    let given = openrdson_core::layer_name(names, short(word(record, 8)));
-    layer_named(given, names.len())
-}
+    ghost HEAD = { 72 };
 
-fn stack_layer(record: &[u8]) -> Answer {
-    of_stack(openrdson_core::stack_layer(slice(record, 1), slice(record, 2)))
-}
+    const HEAD: usize = 72;
 
-fn via_layers(record: &[u8]) -> Answer {
-    let vias = slice(record, 1);
-    of_via(
-        openrdson_core::via_layers(vias, slice(record, 2)),
-        vias.len(),
-    )
-}
+    ghost LARGEST = { 8256 };
 
-fn material_number(record: &[u8]) -> Answer {
-    let conductors = slice(record, 1);
-    let diffusions = slice(record, 2);
-    let vias = slice(record, 3);
-    let given = openrdson_core::material_number(conductors, diffusions, vias, slice(record, 4));
-    numbered(given)
-}
+    const LARGEST: usize = 8256;
 
-fn is_marker(record: &[u8]) -> Answer {
-    Answer::whole(openrdson_core::is_marker(slice(record, 1)) as u64)
-}
+    fn number(self) -> u64 {
+        self as u64
+    }
 
-// The answer of a call.
-pub fn answer(call: u64, record: &[u8]) -> Answer {
-    match call {
-        14 => check_blocks(record),
-        15 => look_up(record),
-        16 => name_place(record),
-        17 => layer_name(record),
-        18 => stack_layer(record),
-        19 => via_layers(record),
-        20 => material_number(record),
-        _ => is_marker(record),
+    fn size_of(record: Record<'_>) -> usize {
+        size_of(record)
+    }
+
+    // Whether the call's slices have at most 1,024 bytes and the others none, and the layer's number is right.
+    fn is_sound(self, record: Record<'_>) -> bool {
+        let n = self.slices();
+        record.are_within(1..n + 1, 1024)
+            && record.are_within(n + 1..8, 0)
+            && self.takes(record.word(8))
+    }
+
+    fn is_answered(self, record: Record<'_>) -> bool {
+        let place = answer_place(record);
+        self.answer(record).is_recorded(record.after(place))
     }
 }

@@ -3,15 +3,14 @@
 
 mod answers;
 mod calls;
-mod report;
-mod run;
 mod slices;
 
+use calls::Call;
+use records::Tally;
 use std::io;
 
 fn main(rt: HostRuntime) -> io::Result<()> {
-    let mut cases = [0u64; 9];
-    let mut mismatches = [0u64; 9];
-    run::replay(&mut rt.stdin(), &mut cases, &mut mismatches)?;
-    report::print_report(&rt, &cases, &mismatches)
+    let mut buffer = [0u8; 8256];
+    let mut tallies = [Tally::NONE; 8];
+    records::run::<Call>(&rt, &mut rt.stdin(), &mut buffer, &mut tallies)
 }

@@ -1,57 +1,37 @@
 // The byte slices of a record: their lengths stand in words 1 to 7, their bytes from byte 72 on.
-ghost use Rattle.std.specs.Prelude.{◌≤◌, ◌+◌, ◌*◌};
+ghost use Rattle.std.specs.Prelude.{◌≤◌};
 
-use records::{length_at, word};
+use records::Record;
 
 // Where slice i starts. Slice 8 is past the last.
-fn start_of(record: &[u8], i: usize) -> usize
+fn start_of(record: Record<'_>, i: usize) -> usize
     requires { i ≤ 8 }
-    ensures { (72 ≤ result) × (result ≤ 8192) }
+    ensures low { 72 ≤ result }
+    ensures high { result ≤ 8192 }
 {
-    let mut at = 72;
-    let mut k = 1;
-    while k < i {
-        at += length_at(record, k);
-        k += 1;
-    }
-    at
+    72 + record.sum(1..i, 1024)
 }
 
 // Slice i, and an empty one past the record's end.
-pub fn slice(record: &[u8], i: usize) -> &[u8]
+pub fn slice(record: Record<'_>, i: usize) -> &[u8]
     requires { i ≤ 8 }
 {
     let start = start_of(record, i);
-    let end = start + length_at(record, i);
-    if end > record.len() {
-        return &record[0..0];
-    }
-    &record[start..end]
+    record.bytes(start..start + record.length(i))
 }
 
 // The word where the answer starts: after the slices and their padding.
-pub fn answer_place(record: &[u8]) -> usize
-    ensures { (9 ≤ result) × (result ≤ 1024) }
+pub fn answer_place(record: Record<'_>) -> usize
+    ensures low { 9 ≤ result }
+    ensures high { result ≤ 1024 }
 {
-    (start_of(record, 8) + 7) / 8
+    start_of(record, 8).div_ceil(8)
 }
 
 // The bytes of a record with these slices.
-pub fn size_of(record: &[u8]) -> usize
-    ensures { (136 ≤ result) × (result ≤ 8256) }
+pub fn size_of(record: Record<'_>) -> usize
+    ensures low { 136 ≤ result }
+    ensures high { result ≤ 8256 }
 {
     (answer_place(record) + 8) * 8
-}
-
-// Whether the first n slices have at most 1,024 bytes, and the others none.
-pub fn are_lengths_in(record: &[u8], n: usize) -> bool {
-    let mut i = 1;
-    while i < 8 {
-        let most = if i <= n { 1024 } else { 0 };
-        if word(record, i) > most {
-            return false;
-        }
-        i += 1;
-    }
-    true
 }

@@ -1,30 +1,20 @@
 // Cells and coordinates on an axis.
-use meshing::{Counted, axis_coordinate, cell_count};
-use openrdson_core::Measured;
-use records::{Answer, bits, float_at, word};
+use meshing::{axis_coordinate, cell_count};
+use records::{Answer, Entry, Record};
 
-// Whether `cell_count` answers what the record says.
-pub fn is_count_answered(record: &[u8]) -> bool {
-    let counted = cell_count(float_at(record, 11), float_at(record, 12));
-    let answer = match counted {
-        Counted::Refused(why) => Answer::refused(why.number() as u64),
-        Counted::Cells(n) => Answer::whole(n as u64),
-    };
-    answer.is_recorded(record, 23)
+// The answer of `cell_count`.
+pub fn counted(record: Record<'_>) -> Answer {
+    match cell_count(record.at(11), record.at(12)) {
+        Ok(n) => Answer::whole(n as u64),
+        Err(why) => Answer::refused(u64::from(u32::from(why))),
+    }
 }
 
-// Whether `axis_coordinate` does; the place is the part's start.
-pub fn is_coordinate_answered(record: &[u8]) -> bool {
-    let place = word(record, 21) as usize;
-    let measured = axis_coordinate(
-        float_at(record, 11),
-        float_at(record, 12),
-        float_at(record, 13),
-        place,
-    );
-    let answer = match measured {
-        Measured::Refused(why) => Answer::refused(why.number() as u64),
-        Measured::Value(x) => Answer::whole(bits(x)),
-    };
-    answer.is_recorded(record, 23)
+// The answer of `axis_coordinate`, whose place is the part's start.
+pub fn measured(record: Record<'_>) -> Answer {
+    let coordinate = axis_coordinate(record.at(11), record.at(12), record.at(13), record.at(21));
+    match coordinate {
+        Ok(x) => Answer::whole(x.word()),
+        Err(why) => Answer::refused(u64::from(u32::from(why))),
+    }
 }

@@ -2,18 +2,16 @@
 #![tactic(auto)]
 
 mod axes;
-mod boxes;
+mod calls;
 mod meshes;
 mod places;
-mod prisms;
-mod report;
-mod run;
 
+use calls::Call;
+use records::Tally;
 use std::io;
 
 fn main(rt: HostRuntime) -> io::Result<()> {
-    let mut cases = [0u64; 5];
-    let mut mismatches = [0u64; 5];
-    run::replay(&mut rt.stdin(), &mut cases, &mut mismatches)?;
-    report::print_report(&rt, &cases, &mismatches)
+    let mut buffer = [0u8; 20696];
+    let mut tallies = [Tally::NONE; 4];
+    records::run::<Call>(&rt, &mut rt.stdin(), &mut buffer, &mut tallies)
 }

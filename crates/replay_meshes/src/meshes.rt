@@ -1,86 +1,132 @@
 // Calls that append to a mesh: the nodes and elements that they add are the record's, and every other entry is as before.
-use crate::boxes::meshed_box;
-use crate::places::{
-    elements_from, elements_place, elements_to, new_elements, new_nodes, nodes_from, nodes_place,
-    nodes_to,
-};
-use crate::prisms::meshed_prism;
-use meshing::Meshed;
-use records::{
-    Answer, FLOAT_BEFORE, KIND_BEFORE, NUMBER_BEFORE, at_most, first_bytes, same_kinds,
-    same_numbers, same_reals, word,
-};
+use crate::places::{POINTS, elements, elements_place, nodes, nodes_place};
+use meshing::{MeshConfig, mesh_box, mesh_prism};
+use openrdson_core::{Bbox, Counts, Material, Refusal};
+use records::{Answer, Lent, Record};
 
-// Whether the status and the counts are the record's.
-fn is_recorded(record: &[u8], meshed: Meshed) -> bool {
-    let answer = match meshed {
-        Meshed::Refused(why) => Answer::refused(why.number() as u64),
-        Meshed::Done(counts) => Answer::given(0, counts.nodes as u64, counts.elements as u64, 0, 0),
+// A mesh's lists, of which a call is lent the record's lengths.
+#[derive(Drop)]
+pub struct Mesh {
+    xs: [f64; 64],
+    ys: [f64; 64],
+    zs: [f64; 64],
+    kinds: [u8; 32],
+    places: [u32; 256],
+    regions: [u32; 32],
+}
+
+impl Mesh {
+    // As they are before a call.
+    const BEFORE: Self = Self {
+        xs: [f64::BEFORE; 64],
+        ys: [f64::BEFORE; 64],
+        zs: [f64::BEFORE; 64],
+        kinds: [u8::BEFORE; 32],
+        places: [u32::BEFORE; 256],
+        regions: [u32::BEFORE; 32],
     };
-    answer.is_recorded(first_bytes(record, 216), 23)
-}
 
-// Whether the nodes are the record's.
-fn are_nodes_recorded(record: &[u8], xs: &[f64; 64], ys: &[f64; 64], zs: &[f64; 64]) -> bool {
-    let at = nodes_place(record);
-    let n = new_nodes(record);
-    let from = nodes_from(record);
-    let to = nodes_to(record);
-    same_reals(xs, record, at, from, to)
-        & same_reals(ys, record, at + n, from, to)
-        & same_reals(zs, record, at + 2 * n, from, to)
-}
-
-// Whether the elements are the record's.
-fn are_elements_recorded(
-    record: &[u8],
-    kinds: &[u8; 32],
-    places: &[u32; 256],
-    regions: &[u32; 32],
-) -> bool {
-    let at = elements_place(record);
-    let n = new_elements(record);
-    let from = elements_from(record);
-    let to = elements_to(record);
-    same_kinds(kinds, record, at, from, to)
-        & same_numbers(places, record, at + n, 8 * from, 8 * to)
-        & same_numbers(regions, record, at + 9 * n, from, to)
-}
-
-// The record's region, a box or a prism, meshed into these lists.
-fn meshed_region(
-    record: &[u8],
-    xs: &mut [f64],
-    ys: &mut [f64],
-    zs: &mut [f64],
-    kinds: &mut [u8],
-    places: &mut [u32],
-    regions: &mut [u32],
-) -> Meshed {
-    if word(record, 0) == 46 {
-        return meshed_box(record, xs, ys, zs, kinds, places, regions);
+    // Whether the nodes are the record's.
+    fn are_nodes_recorded(&self, record: Record<'_>) -> bool {
+        let at = nodes_place(record);
+        let n = nodes(record).len();
+        record.is_left(at, &self.xs, nodes(record))
+            && record.is_left(at + n, &self.ys, nodes(record))
+            && record.is_left(at + 2 * n, &self.zs, nodes(record))
     }
-    meshed_prism(record, xs, ys, zs, kinds, places, regions)
+
+    // Whether the elements are.
+    fn are_elements_recorded(&self, record: Record<'_>) -> bool {
+        let at = elements_place(record);
+        let new = elements(record);
+        let places = 8 * new.start..8 * new.end;
+        let n = new.len();
+        record.is_left(at, &self.kinds, elements(record))
+            && record.is_left(at + n, &self.places, places)
+            && record.is_left(at + 9 * n, &self.regions, new)
+    }
 }
 
-// Whether the call answers what the record says, and leaves the mesh's lists as it says.
-pub fn is_mesh_answered(record: &[u8]) -> bool {
-    let mut xs = [FLOAT_BEFORE; 64];
-    let mut ys = [FLOAT_BEFORE; 64];
-    let mut zs = [FLOAT_BEFORE; 64];
-    let mut kinds = [KIND_BEFORE; 32];
-    let mut places = [NUMBER_BEFORE; 256];
-    let mut regions = [NUMBER_BEFORE; 32];
-    let meshed = meshed_region(
-        record,
-        &mut xs[0..at_most(record, 3, 64)],
-        &mut ys[0..at_most(record, 4, 64)],
-        &mut zs[0..at_most(record, 5, 64)],
-        &mut kinds[0..at_most(record, 6, 32)],
-        &mut places[0..at_most(record, 7, 256)],
-        &mut regions[0..at_most(record, 8, 32)],
+// The nodes and elements that the record's mesh has.
+fn counts(record: Record<'_>) -> Counts {
+    Counts {
+        nodes: record.at(9),
+        elements: record.at(10),
+    }
+}
+
+fn bounds(record: Record<'_>) -> Bbox {
+    Bbox {
+        min_x: record.at(11),
+        min_y: record.at(12),
+        max_x: record.at(13),
+        max_y: record.at(14),
+    }
+}
+
+// The record's box, meshed.
+pub fn meshed_box(record: Record<'_>) -> (Result<Counts, Refusal>, Mesh) {
+    let mut mesh = Mesh::BEFORE;
+    let config = MeshConfig {
+        lateral_cell: record.at(17),
+        z_cell: record.at(18),
+    };
+    let meshed = mesh_box(
+        bounds(record),
+        record.at(15),
+        record.at(16),
+        Material(record.at(19)),
+        record.at(20),
+        config,
+        counts(record),
+        &mut mesh.xs[..record.at_most(3, 64)],
+        &mut mesh.ys[..record.at_most(4, 64)],
+        &mut mesh.zs[..record.at_most(5, 64)],
+        &mut mesh.kinds[..record.at_most(6, 32)],
+        &mut mesh.places[..record.at_most(7, 256)],
+        &mut mesh.regions[..record.at_most(8, 32)],
     );
-    let nodes = are_nodes_recorded(record, &xs, &ys, &zs);
-    let elements = are_elements_recorded(record, &kinds, &places, &regions);
-    nodes & elements & is_recorded(record, meshed)
+    (meshed, mesh)
+}
+
+// The record's prism, meshed.
+pub fn meshed_prism(record: Record<'_>) -> (Result<Counts, Refusal>, Mesh) {
+    let m = record.length(1);
+    let xs = record.list::<f64, 1024>(POINTS, m);
+    let ys = record.list::<f64, 1024>(POINTS + m, record.length(2));
+    let mut mesh = Mesh::BEFORE;
+    let meshed = mesh_prism(
+        &xs,
+        &ys,
+        record.at(15),
+        record.at(16),
+        record.at(21),
+        record.at(22),
+        Material(record.at(19)),
+        record.at(20),
+        counts(record),
+        &mut mesh.xs[..record.at_most(3, 64)],
+        &mut mesh.ys[..record.at_most(4, 64)],
+        &mut mesh.zs[..record.at_most(5, 64)],
+        &mut mesh.kinds[..record.at_most(6, 32)],
+        &mut mesh.places[..record.at_most(7, 256)],
+        &mut mesh.regions[..record.at_most(8, 32)],
+    );
+    (meshed, mesh)
+}
+
+// The status and the counts.
+fn answer(meshed: Result<Counts, Refusal>) -> Answer {
+    match meshed {
+        Ok(counts) => Answer::given(0, counts.nodes as u64, counts.elements as u64, 0, 0),
+        Err(why) => Answer::refused(u64::from(u32::from(why))),
+    }
+}
+
+// Whether a call answers what the record says, and leaves the mesh as it says. The answer's last words are past the head's end.
+pub fn is_recorded(record: Record<'_>, (meshed, mesh): (Result<Counts, Refusal>, Mesh)) -> bool {
+    let head = Record(record.bytes(0..8 * POINTS));
+    mesh.are_nodes_recorded(record)
+        && mesh.are_elements_recorded(record)
+        && answer(meshed).is_recorded(head.after(23))
 }

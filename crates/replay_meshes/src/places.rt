@@ -4,88 +4,61 @@
 // Then the points follow, and what the call writes: xs, ys and zs of the nodes, then kinds, node places and regions of the elements.
 ghost use Rattle.std.specs.Prelude.{◌≤◌};
 
-use records::{at_most, length_at, word};
+use records::Record;
+use std::ops::Range;
 
-// How many entries there are from `from` up to `to`.
-fn added(from: usize, to: usize) -> usize
-    ensures { result ≤ to }
+// The nodes that the call writes.
+pub fn nodes(record: Record<'_>) -> Range<usize>
+    ensures start { result.start ≤ 64 }
+    ensures end { result.end ≤ 64 }
 {
-    if to < from {
-        return 0;
-    }
-    to - from
+    record.at_most(9, 64)..record.at_most(25, 64)
 }
 
-// The first node that the call writes, and the end of those that it writes.
-pub fn nodes_from(record: &[u8]) -> usize
-    ensures { result ≤ 64 }
+// The elements that the call writes.
+pub fn elements(record: Record<'_>) -> Range<usize>
+    ensures start { result.start ≤ 32 }
+    ensures end { result.end ≤ 32 }
 {
-    at_most(record, 9, 64)
+    record.at_most(10, 32)..record.at_most(26, 32)
 }
 
-pub fn nodes_to(record: &[u8]) -> usize
-    ensures { result ≤ 64 }
-{
-    at_most(record, 25, 64)
-}
-
-pub fn new_nodes(record: &[u8]) -> usize
-    ensures { result ≤ 64 }
-{
-    added(nodes_from(record), nodes_to(record))
-}
-
-// The same of elements.
-pub fn elements_from(record: &[u8]) -> usize
-    ensures { result ≤ 32 }
-{
-    at_most(record, 10, 32)
-}
-
-pub fn elements_to(record: &[u8]) -> usize
-    ensures { result ≤ 32 }
-{
-    at_most(record, 26, 32)
-}
-
-pub fn new_elements(record: &[u8]) -> usize
-    ensures { result ≤ 32 }
-{
-    added(elements_from(record), elements_to(record))
-}
+// The word where the points start.
+pub const POINTS: usize = 27;
 
 // The word where the nodes start: after the points.
-pub fn nodes_place(record: &[u8]) -> usize
-    ensures { (27 ≤ result) × (result ≤ 2075) }
+pub fn nodes_place(record: Record<'_>) -> usize
+    ensures low { 27 ≤ result }
+    ensures high { result ≤ 2075 }
 {
-    27 + length_at(record, 1) + length_at(record, 2)
+    POINTS + record.length(1) + record.length(2)
 }
 
 // The word where the elements start.
-pub fn elements_place(record: &[u8]) -> usize
-    ensures { (27 ≤ result) × (result ≤ 2267) }
+pub fn elements_place(record: Record<'_>) -> usize
+    ensures low { 27 ≤ result }
+    ensures high { result ≤ 2267 }
 {
-    nodes_place(record) + 3 * new_nodes(record)
+    nodes_place(record) + 3 * nodes(record).len()
 }
 
 // The bytes of a record with these lists.
-pub fn size_of(record: &[u8]) -> usize
-    ensures { (216 ≤ result) × (result ≤ 20696) }
+pub fn size_of(record: Record<'_>) -> usize
+    ensures low { 216 ≤ result }
+    ensures high { result ≤ 20696 }
 {
-    (elements_place(record) + 10 * new_elements(record)) * 8
+    (elements_place(record) + 10 * elements(record).len()) * 8
 }
 
 // Whether the mesh has at most 64 nodes and 32 elements, in its lists and after the call.
-fn is_mesh_in(record: &[u8]) -> bool {
-    let nodes = (word(record, 3) <= 64) & (word(record, 4) <= 64) & (word(record, 5) <= 64);
-    let elements = (word(record, 6) <= 32) & (word(record, 7) <= 256) & (word(record, 8) <= 32);
-    nodes & elements & (word(record, 25) <= 64) & (word(record, 26) <= 32)
+fn is_mesh_in(record: Record<'_>) -> bool {
+    let are_nodes_in = record.are_within(3..6, 64) && record.word(25) <= 64;
+    let are_elements_in = record.word(6) <= 32 && record.word(7) <= 256 && record.word(8) <= 32;
+    are_nodes_in && are_elements_in && record.word(26) <= 32
 }
 
-// Whether the mesh has, the point lists have at most 1,024 entries, and the material, the region's number, and a prism's start and count are below 2^32.
-pub fn are_numbers_in(record: &[u8]) -> bool {
-    let points = (word(record, 1) <= 1024) & (word(record, 2) <= 1024);
-    let labels = (word(record, 19) < 4294967296) & (word(record, 20) < 4294967296);
-    let part = (word(record, 21) < 4294967296) & (word(record, 22) < 4294967296);
-    points & labels & (part | (word(record, 0) < 47)) & is_mesh_in(record)
+// Whether the mesh has, the point lists have at most 1,024 entries, and the material and the region's number are below 2^32.
+pub fn are_numbers_in(record: Record<'_>) -> bool {
+    let most = u64::from(u32::MAX);
+    record.are_within(1..3, 1024) && record.are_within(19..21, most) && is_mesh_in(record)
 }

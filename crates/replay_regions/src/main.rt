@@ -1,19 +1,18 @@
 // Replays recorded answers about regions on the proved calls, and says how many differ, bit for bit.
 #![tactic(auto)]
 
-mod entries;
+mod calls;
 mod extrusions;
 mod places;
-mod report;
-mod run;
 mod stacks;
 mod totals;
 
+use calls::Call;
+use records::Tally;
 use std::io;
 
 fn main(rt: HostRuntime) -> io::Result<()> {
-    let mut cases = [0u64; 5];
-    let mut mismatches = [0u64; 5];
-    run::replay(&mut rt.stdin(), &mut cases, &mut mismatches)?;
-    report::print_report(&rt, &cases, &mismatches)
+    let mut buffer = [0u8; 24992];
+    let mut tallies = [Tally::NONE; 4];
+    records::run::<Call>(&rt, &mut rt.stdin(), &mut buffer, &mut tallies)
 }

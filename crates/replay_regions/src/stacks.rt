@@ -1,178 +1,116 @@
 // Stacking: the record's region lists and outcomes are those after the call.
 ghost use Rattle.std.specs.Prelude.{◌≤◌};
 
-use crate::entries::{numbers_at, shorts_at};
-use crate::places::{block, list_place, points_place, small_at};
-use geometry::{Stacked, assemble_stack};
-use records::{
-    FLOAT_BEFORE, KIND_BEFORE, NUMBER_BEFORE, floats_at, length_at, same_kinds, same_numbers,
-    same_reals, word,
-};
+use crate::places::{Points, block, list_place, small, small_at};
+use geometry::assemble_stack;
+use openrdson_core::Refusal;
+use records::{Lent, Record};
 
-// Whether the status and the number of regions are the record's.
-fn is_recorded(record: &[u8], stacked: Stacked) -> bool {
-    match stacked {
-        Stacked::Refused(why) => (why.number() as u64 == word(record, 34))
-            & (0 == word(record, 35)),
-        Stacked::Regions(rows) => (0 == word(record, 34)) & (rows as u64 == word(record, 35)),
+// The region lists and the outcomes, of which the call is lent the record's lengths.
+#[derive(Drop)]
+struct Lists {
+    kinds: [u8; 16],
+    min_x: [f64; 16],
+    min_y: [f64; 16],
+    max_x: [f64; 16],
+    max_y: [f64; 16],
+    z_bottom: [f64; 16],
+    z_top: [f64; 16],
+    starts: [u32; 16],
+    counts: [u32; 16],
+    materials: [u32; 16],
+    nets: [u32; 16],
+    polygons: [u32; 16],
+    outcomes: [u8; 16],
+}
+
+// Whether a list is list i of the record, and nothing is written past its end.
+fn is_list<T: Lent>(record: Record<'_>, i: usize, list: &[T; 16]) -> bool
+    requires { i ≤ 26 }
+{
+    record.is_left(list_place(record, i), list, 0..small_at(record, i))
+}
+
+impl Lists {
+    // As they are before a call.
+    const BEFORE: Self = Self {
+        kinds: [u8::BEFORE; 16],
+        min_x: [f64::BEFORE; 16],
+        min_y: [f64::BEFORE; 16],
+        max_x: [f64::BEFORE; 16],
+        max_y: [f64::BEFORE; 16],
+        z_bottom: [f64::BEFORE; 16],
+        z_top: [f64::BEFORE; 16],
+        starts: [u32::BEFORE; 16],
+        counts: [u32::BEFORE; 16],
+        materials: [u32::BEFORE; 16],
+        nets: [u32::BEFORE; 16],
+        polygons: [u32::BEFORE; 16],
+        outcomes: [u8::BEFORE; 16],
+    };
+
+    // Whether they are the record's.
+    fn are_recorded(&self, record: Record<'_>) -> bool {
+        is_list(record, 13, &self.kinds)
+            && is_list(record, 14, &self.min_x)
+            && is_list(record, 15, &self.min_y)
+            && is_list(record, 16, &self.max_x)
+            && is_list(record, 17, &self.max_y)
+            && is_list(record, 18, &self.z_bottom)
+            && is_list(record, 19, &self.z_top)
+            && is_list(record, 20, &self.starts)
+            && is_list(record, 21, &self.counts)
+            && is_list(record, 22, &self.materials)
+            && is_list(record, 23, &self.nets)
+            && is_list(record, 24, &self.polygons)
+            && is_list(record, 25, &self.outcomes)
     }
 }
 
-// Whether these kinds are list i of the record, and nothing is written past its end.
-fn are_kinds(list: &[u8; 16], record: &[u8], i: usize) -> bool
-    requires { i ≤ 26 }
-{
-    same_kinds(list, record, list_place(record, i), 0, small_at(record, i))
-}
-
-// The same of whole numbers.
-fn are_numbers(list: &[u32; 16], record: &[u8], i: usize) -> bool
-    requires { i ≤ 26 }
-{
-    same_numbers(list, record, list_place(record, i), 0, small_at(record, i))
-}
-
-// The same of floats.
-fn are_reals(list: &[f64; 16], record: &[u8], i: usize) -> bool
-    requires { i ≤ 26 }
-{
-    same_reals(list, record, list_place(record, i), 0, small_at(record, i))
-}
-
-// Whether the twelve region lists and the outcomes are the record's.
-fn are_lists_recorded(
-    record: &[u8],
-    kinds: &[u8; 16],
-    min_x: &[f64; 16],
-    min_y: &[f64; 16],
-    max_x: &[f64; 16],
-    max_y: &[f64; 16],
-    z_bottom: &[f64; 16],
-    z_top: &[f64; 16],
-    starts: &[u32; 16],
-    counts: &[u32; 16],
-    materials: &[u32; 16],
-    nets: &[u32; 16],
-    polygons: &[u32; 16],
-    outcomes: &[u8; 16],
-) -> bool {
-    let low = are_reals(min_x, record, 14) & are_reals(min_y, record, 15);
-    let high = are_reals(max_x, record, 16) & are_reals(max_y, record, 17);
-    let heights = are_reals(z_bottom, record, 18) & are_reals(z_top, record, 19);
-    let parts = are_numbers(starts, record, 20) & are_numbers(counts, record, 21);
-    let labels = are_numbers(materials, record, 22) & are_numbers(nets, record, 23);
-    let others = are_kinds(kinds, record, 13) & are_numbers(polygons, record, 24);
-    low & high & heights & parts & labels & others & are_kinds(outcomes, record, 25)
-}
-
-// Whether the call on these blocks and this layout answers what the record says, and leaves the lists as it says.
-fn is_answered(
-    record: &[u8],
-    names: &[u8],
-    conducting: &[u8],
-    via: &[u8],
-    conductors: &[u8],
-    diffusions: &[u8],
-    vias: &[u8],
-    layers: &[i16],
-    polygon_nets: &[u32],
-    polygon_starts: &[u32],
-    polygon_counts: &[u32],
-    xs: &[f64],
-    ys: &[f64],
-) -> bool {
-    let mut kinds = [KIND_BEFORE; 16];
-    let mut min_x = [FLOAT_BEFORE; 16];
-    let mut min_y = [FLOAT_BEFORE; 16];
-    let mut max_x = [FLOAT_BEFORE; 16];
-    let mut max_y = [FLOAT_BEFORE; 16];
-    let mut z_bottom = [FLOAT_BEFORE; 16];
-    let mut z_top = [FLOAT_BEFORE; 16];
-    let mut starts = [NUMBER_BEFORE; 16];
-    let mut counts = [NUMBER_BEFORE; 16];
-    let mut materials = [NUMBER_BEFORE; 16];
-    let mut nets = [NUMBER_BEFORE; 16];
-    let mut polygons = [NUMBER_BEFORE; 16];
-    let mut outcomes = [KIND_BEFORE; 16];
+// What the call on the record's blocks, polygons and points answers, and how it leaves the lists.
+fn stacked(record: Record<'_>) -> (Result<usize, Refusal>, Lists) {
+    let points = Points::of(record);
+    let mut to = Lists::BEFORE;
     let stacked = assemble_stack(
-        names,
-        conducting,
-        via,
-        conductors,
-        diffusions,
-        vias,
-        layers,
-        polygon_nets,
-        polygon_starts,
-        polygon_counts,
-        xs,
-        ys,
-        &mut kinds[0..small_at(record, 13)],
-        &mut min_x[0..small_at(record, 14)],
-        &mut min_y[0..small_at(record, 15)],
-        &mut max_x[0..small_at(record, 16)],
-        &mut max_y[0..small_at(record, 17)],
-        &mut z_bottom[0..small_at(record, 18)],
-        &mut z_top[0..small_at(record, 19)],
-        &mut starts[0..small_at(record, 20)],
-        &mut counts[0..small_at(record, 21)],
-        &mut materials[0..small_at(record, 22)],
-        &mut nets[0..small_at(record, 23)],
-        &mut polygons[0..small_at(record, 24)],
-        &mut outcomes[0..small_at(record, 25)],
+        block(record, 1),
+        block(record, 2),
+        block(record, 3),
+        block(record, 4),
+        block(record, 5),
+        block(record, 6),
+        &small(record, 9),
+        &small(record, 10),
+        &small(record, 11),
+        &small(record, 12),
+        &points.xs,
+        &points.ys,
+        &mut to.kinds[..small_at(record, 13)],
+        &mut to.min_x[..small_at(record, 14)],
+        &mut to.min_y[..small_at(record, 15)],
+        &mut to.max_x[..small_at(record, 16)],
+        &mut to.max_y[..small_at(record, 17)],
+        &mut to.z_bottom[..small_at(record, 18)],
+        &mut to.z_top[..small_at(record, 19)],
+        &mut to.starts[..small_at(record, 20)],
+        &mut to.counts[..small_at(record, 21)],
+        &mut to.materials[..small_at(record, 22)],
+        &mut to.nets[..small_at(record, 23)],
+        &mut to.polygons[..small_at(record, 24)],
+        &mut to.outcomes[..small_at(record, 25)],
     );
-    let lists = are_lists_recorded(
-        record, &kinds, &min_x, &min_y, &max_x, &max_y, &z_bottom, &z_top, &starts, &counts,
-        &materials, &nets, &polygons, &outcomes,
-    );
-    lists & is_recorded(record, stacked)
+    (stacked, to)
 }
 
-// The same on the record's blocks.
-fn is_layout_answered(
-    record: &[u8],
-    layers: &[i16],
-    nets: &[u32],
-    starts: &[u32],
-    counts: &[u32],
-    xs: &[f64],
-    ys: &[f64],
-) -> bool {
-    let names = block(record, 1);
-    let conducting = block(record, 2);
-    let via = block(record, 3);
-    let conductors = block(record, 4);
-    let diffusions = block(record, 5);
-    let vias = block(record, 6);
-    is_answered(
-        record, names, conducting, via, conductors, diffusions, vias, layers, nets, starts, counts,
-        xs, ys,
-    )
+// Whether the status and the number of regions are the record's.
+fn is_recorded(record: Record<'_>, stacked: Result<usize, Refusal>) -> bool {
+    match stacked {
+        Ok(rows) => record.after(34).begins(&[0, rows as u64]),
+        Err(why) => record.after(34).begins(&[u64::from(u32::from(why)), 0]),
+    }
 }
 
-// The same on the record's polygons.
-fn are_polygons_answered(record: &[u8], xs: &[f64], ys: &[f64]) -> bool {
-    let layers = shorts_at(record, 9);
-    let nets = numbers_at(record, 10);
-    let starts = numbers_at(record, 11);
-    let counts = numbers_at(record, 12);
-    is_layout_answered(
-        record,
-        &layers[0..small_at(record, 9)],
-        &nets[0..small_at(record, 10)],
-        &starts[0..small_at(record, 11)],
-        &counts[0..small_at(record, 12)],
-        xs,
-        ys,
-    )
-}
-
-// The same on the record's points.
-pub fn is_stack_answered(record: &[u8]) -> bool {
-    let m = length_at(record, 7);
-    let n = length_at(record, 8);
-    let from = points_place(record);
-    let xs = floats_at(record, from, m);
-    let ys = floats_at(record, from + m, n);
-    are_polygons_answered(record, &xs[0..m], &ys[0..n])
+// Whether the call answers what the record says, and leaves the lists as it says.
+pub fn is_stack_answered(record: Record<'_>) -> bool {
+    let (stacked, lists) = stacked(record);
+    lists.are_recorded(record) && is_recorded(record, stacked)
 }

@@ -1,94 +1,109 @@
-// Writing a name block: its count, then its two arrays. A row that does not fit is cut off, and stacking then refuses the block with 14.
-ghost use Rattle.std.specs.Prelude.{◌≡◌, ◌<◌, ◌≤◌, length};
+// Writing a name block: its count, then its two arrays. Rows that do not fill the block leave it all zero, and stacking then refuses it with 14.
+ghost use Rattle.std.specs.Prelude.{◌≤◌};
 
-// One byte, where the block goes so far.
-pub fn put_byte(block: &mut [u8], at: usize, byte: u8) {
-    if at < block.len() {
-        block[at] = byte;
+use arrayvec::ArrayVec;
+use records::Entry;
+
+// A layer of the stack: a name, its height, and its thickness, if any.
+pub type Layer<'a> = (&'a str, f64, Option<f64>);
+
+// A via: a name, the layer below and the one above.
+pub type Via<'a> = (&'a str, &'a str, &'a str);
+
+#[derive(Drop)]
+struct Block<const N: usize> {
+    bytes: ArrayVec<u8, N>,
+}
+
+impl<const N: usize> Block<N> {
+    // A block of so many rows, of which none is written.
+    fn of(rows: usize) -> Self {
+        let mut block = Block {
+            bytes: ArrayVec::new(),
+        };
+        block.put(&u16::try_from(rows).unwrap_or(u16::MAX).to_le_bytes());
+        block
+    }
+
+    fn put(&mut self, bytes: &[u8]) {
+        let _ = self.bytes.try_extend_from_slice(bytes);
+    }
+
+    // A name, and zeros up to 32 bytes.
+    fn put_name(&mut self, name: &str) {
+        let mut cell = [0; 32];
+        for (to, from) in cell.iter_mut().zip(name.as_bytes()) {
+            *to = *from;
+        }
+        self.put(&cell);
+    }
+
+    fn put_figure(&mut self, figure: f64) {
+        self.put(&figure.word().to_le_bytes());
+    }
+
+    // The block, once its rows fill it.
+    fn whole(self) -> [u8; N] {
+        self.bytes.into_inner().unwrap_or([0; N])
     }
 }
 
-// Bytes from place `at` on.
-fn put(block: &mut [u8], at: usize, bytes: &[u8])
-    requires { at ≤ 65535 }
+// Layers' numbers and names.
+pub fn layers<const N: usize>(rows: &[(u8, &str)]) -> [u8; N]
+    requires { N ≤ 4096 }
 {
-    let mut i = 0;
-    while i < bytes.len() {
-        put_byte(block, at + i, bytes[i]);
-        i += 1;
+    let mut block = Block::of(rows.len());
+    for (layer, _) in rows {
+        block.put(&[*layer, 0]);
     }
-}
-
-// The eight bytes of a word, little-endian.
-fn little(word: u64) -> [u8; 8]
-    ensures { 8 ≡ length result }
-{
-    let mut bytes = [0; 8];
-    let mut rest = word;
-    let mut i = 0;
-    while i < 8 {
-        bytes[i] = (rest % 256) as u8;
-        rest = rest / 256;
-        i += 1;
+    for (_, name) in rows {
+        block.put_name(name);
     }
-    bytes
+    block.whole()
 }
 
-// A figure from place `at` on.
-fn put_figure(block: &mut [u8], at: usize, figure: f64)
-    requires { at ≤ 65535 }
+// A map from logical names to physical ones.
+pub fn names<const N: usize>(rows: &[(&str, &str)]) -> [u8; N]
+    requires { N ≤ 4096 }
 {
-    let bytes = little(records::bits(figure));
-    put(block, at, &bytes);
-}
-
-// Row i of n layer names: a layer's number, and its name.
-pub fn put_layer(block: &mut [u8], n: usize, i: usize, layer: u8, name: &[u8])
-    requires { (i < n) × (n ≤ 256) }
-{
-    put_byte(block, 2 + 2 * i, layer);
-    put(block, 2 + 2 * n + 32 * i, name);
-}
-
-// Row i of a map of n: a logical name, and its physical one.
-pub fn put_names(block: &mut [u8], n: usize, i: usize, logical: &[u8], physical: &[u8])
-    requires { (i < n) × (n ≤ 256) }
-{
-    put(block, 2 + 32 * i, logical);
-    put(block, 2 + 32 * n + 32 * i, physical);
-}
-
-// Which figures of a layer are present: its height always.
-fn flags(thickness: f64) -> u8 {
-    if thickness > 0.0 {
-        return 3;
+    let mut block = Block::of(rows.len());
+    for (logical, _) in rows {
+        block.put_name(logical);
     }
-    1
+    for (_, physical) in rows {
+        block.put_name(physical);
+    }
+    block.whole()
 }
 
-// Row i of n conductors or diffusions: a name, its height, and its thickness, 0 for none.
-pub fn put_stack_layer(
-    block: &mut [u8],
-    n: usize,
-    i: usize,
-    name: &[u8],
-    height: f64,
-    thickness: f64,
-)
-    requires { (i < n) × (n ≤ 256) }
+// Conductors or diffusions.
+pub fn stack<const N: usize>(rows: &[Layer<'_>]) -> [u8; N]
+    requires { N ≤ 4096 }
 {
-    let entry = 2 + 32 * n + 17 * i;
-    put(block, 2 + 32 * i, name);
-    put_byte(block, entry, flags(thickness));
-    put_figure(block, entry + 1, height);
-    put_figure(block, entry + 9, thickness);
+    let mut block = Block::of(rows.len());
+    for (name, _, _) in rows {
+        block.put_name(name);
+    }
+    for (_, height, thickness) in rows {
+        // Which figures are present: the height always.
+        block.put(&[if thickness.is_some() { 3 } else { 1 }]);
+        block.put_figure(*height);
+        block.put_figure(thickness.unwrap_or(0.0));
+    }
+    block.whole()
 }
 
-// Row i of n vias: a name, the layer below and the one above.
-pub fn put_via(block: &mut [u8], n: usize, i: usize, name: &[u8], bottom: &[u8], top: &[u8])
-    requires { (i < n) × (n ≤ 256) }
+// Vias.
+pub fn vias<const N: usize>(rows: &[Via<'_>]) -> [u8; N]
+    requires { N ≤ 4096 }
 {
-    put(block, 2 + 32 * i, name);
-    put(block, 2 + 32 * n + 64 * i, bottom);
-    put(block, 2 + 32 * n + 64 * i + 32, top);
+    let mut block = Block::of(rows.len());
+    for (name, _, _) in rows {
+        block.put_name(name);
+    }
+    for (_, bottom, top) in rows {
+        block.put_name(bottom);
+        block.put_name(top);
+    }
+    block.whole()
 }

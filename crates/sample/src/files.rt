@@ -1,10 +1,10 @@
 // The two files that arguments name: the mesh, and the picture of the plan.
-use crate::layout::{POINTS, REGIONS};
-use crate::mesh::{ELEMENTS, NODES, PLACES};
-use crate::out::{SIZE, close, open};
+use crate::layout::Points;
+use crate::mesh::Mesh;
+use crate::out::write_file;
+use crate::regions::Regions;
 use crate::svg::put_plan;
 use crate::vtk::put_mesh;
-use openrdson_core::Counts;
 use std::env::FillError;
 use std::rt::{Env, Files};
 
@@ -27,135 +27,15 @@ pub fn are_two_or_none(rt: &(impl Env + Eprint)) -> bool {
     false
 }
 
-fn write_mesh<R: Env + Eprint + Files>(
-    rt: &R,
-    xs: &[f64; NODES],
-    ys: &[f64; NODES],
-    zs: &[f64; NODES],
-    kinds: &[u8; ELEMENTS],
-    places: &[u32; PLACES],
-    regions: &[u32; ELEMENTS],
-    materials: &[u32; REGIONS],
-    mesh: Counts,
-) {
-    let Some(mut file) = open(rt, 1) else {
-        return;
-    };
-    let mut buffer = [0; SIZE];
-    let nodes = mesh.nodes;
-    let elements = mesh.elements;
-    let at = put_mesh(
-        &mut file,
-        &mut buffer,
-        xs,
-        ys,
-        zs,
-        kinds,
-        places,
-        regions,
-        materials,
-        nodes,
-        elements,
-    );
-    close(rt, 1, file, &buffer, at);
-}
-
-fn write_plan<R: Env + Eprint + Files>(
-    rt: &R,
-    point_x: &[f64; POINTS],
-    point_y: &[f64; POINTS],
-    region_kinds: &[u8; REGIONS],
-    min_x: &[f64; REGIONS],
-    min_y: &[f64; REGIONS],
-    max_x: &[f64; REGIONS],
-    max_y: &[f64; REGIONS],
-    z_bottom: &[f64; REGIONS],
-    starts: &[u32; REGIONS],
-    counts: &[u32; REGIONS],
-    materials: &[u32; REGIONS],
-    diagnostics: &[u32; REGIONS],
-    xs: &[f64; NODES],
-    ys: &[f64; NODES],
-    zs: &[f64; NODES],
-    kinds: &[u8; ELEMENTS],
-    places: &[u32; PLACES],
-    regions: &[u32; ELEMENTS],
-) {
-    let Some(mut file) = open(rt, 2) else {
-        return;
-    };
-    let mut buffer = [0; SIZE];
-    let at = put_plan(
-        &mut file,
-        &mut buffer,
-        point_x,
-        point_y,
-        region_kinds,
-        min_x,
-        min_y,
-        max_x,
-        max_y,
-        z_bottom,
-        starts,
-        counts,
-        materials,
-        diagnostics,
-        xs,
-        ys,
-        zs,
-        kinds,
-        places,
-        regions,
-    );
-    close(rt, 2, file, &buffer, at);
-}
-
 // Writes both files, if they are asked for.
-pub fn write_files<R: Env + Eprint + Files>(
-    rt: &R,
-    point_x: &[f64; POINTS],
-    point_y: &[f64; POINTS],
-    region_kinds: &[u8; REGIONS],
-    min_x: &[f64; REGIONS],
-    min_y: &[f64; REGIONS],
-    max_x: &[f64; REGIONS],
-    max_y: &[f64; REGIONS],
-    z_bottom: &[f64; REGIONS],
-    starts: &[u32; REGIONS],
-    counts: &[u32; REGIONS],
-    materials: &[u32; REGIONS],
-    diagnostics: &[u32; REGIONS],
-    xs: &[f64; NODES],
-    ys: &[f64; NODES],
-    zs: &[f64; NODES],
-    kinds: &[u8; ELEMENTS],
-    places: &[u32; PLACES],
-    regions: &[u32; ELEMENTS],
-    mesh: Counts,
+pub fn write_files(
+    rt: &(impl Env + Eprint + Files),
+    points: &Points,
+    regions: &Regions,
+    mesh: &Mesh,
 ) {
-    if !are_two(rt) {
-        return;
+    if are_two(rt) {
+        write_file(rt, 1, |out| put_mesh(out, regions, mesh));
+        write_file(rt, 2, |out| put_plan(out, points, regions, mesh));
     }
-    write_mesh(rt, xs, ys, zs, kinds, places, regions, materials, mesh);
-    write_plan(
-        rt,
-        point_x,
-        point_y,
-        region_kinds,
-        min_x,
-        min_y,
-        max_x,
-        max_y,
-        z_bottom,
-        starts,
-        counts,
-        materials,
-        diagnostics,
-        xs,
-        ys,
-        zs,
-        kinds,
-        places,
-        regions,
-    );
 }

@@ -13,105 +13,29 @@ mod stack;
 mod svg;
 mod vtk;
 
-use files::are_two_or_none;
-use geometry::{Stacked, assemble_stack};
-use layout::{POINTS, POLYGONS, REGIONS};
-use regions::mesh_and_print;
-use report::{print_outcomes, print_refusal};
+use files::{are_two_or_none, write_files};
+use layout::Points;
+use mesh::Mesh;
+use regions::Regions;
+use report::{print_mesh, print_outcomes, print_refusal, print_total};
 use std::io;
-
-// Stacks the switch into region lists.
-fn stack_switch(
-    xs: &[f64; POINTS],
-    ys: &[f64; POINTS],
-    kinds: &mut [u8; REGIONS],
-    min_x: &mut [f64; REGIONS],
-    min_y: &mut [f64; REGIONS],
-    max_x: &mut [f64; REGIONS],
-    max_y: &mut [f64; REGIONS],
-    z_bottom: &mut [f64; REGIONS],
-    z_top: &mut [f64; REGIONS],
-    starts: &mut [u32; REGIONS],
-    counts: &mut [u32; REGIONS],
-    materials: &mut [u32; REGIONS],
-    nets: &mut [u32; REGIONS],
-    polygons: &mut [u32; REGIONS],
-    outcomes: &mut [u8; POLYGONS],
-) -> Stacked {
-    assemble_stack(
-        &stack::layer_names(),
-        &stack::conducting(),
-        &stack::via(),
-        &stack::conductors(),
-        &stack::diffusions(),
-        &stack::vias(),
-        &layout::layers(),
-        &layout::nets(),
-        &layout::starts(),
-        &layout::counts(),
-        xs,
-        ys,
-        kinds,
-        min_x,
-        min_y,
-        max_x,
-        max_y,
-        z_bottom,
-        z_top,
-        starts,
-        counts,
-        materials,
-        nets,
-        polygons,
-        outcomes,
-    )
-}
 
 fn main(rt: HostRuntime) -> io::Result<()> {
     if !are_two_or_none(&rt) {
         return Ok(());
     }
-    let mut xs = [0.0; POINTS];
-    let mut ys = [0.0; POINTS];
-    layout::put_points(&mut xs, &mut ys);
-    let mut kinds = [0; REGIONS];
-    let mut min_x = [0.0; REGIONS];
-    let mut min_y = [0.0; REGIONS];
-    let mut max_x = [0.0; REGIONS];
-    let mut max_y = [0.0; REGIONS];
-    let mut z_bottom = [0.0; REGIONS];
-    let mut z_top = [0.0; REGIONS];
-    let mut starts = [0; REGIONS];
-    let mut counts = [0; REGIONS];
-    let mut materials = [0; REGIONS];
-    let mut nets = [0; REGIONS];
-    let mut polygons = [0; REGIONS];
-    let mut outcomes = [0; POLYGONS];
-    let stacked = stack_switch(
-        &xs,
-        &ys,
-        &mut kinds,
-        &mut min_x,
-        &mut min_y,
-        &mut max_x,
-        &mut max_y,
-        &mut z_bottom,
-        &mut z_top,
-        &mut starts,
-        &mut counts,
-        &mut materials,
-        &mut nets,
-        &mut polygons,
-        &mut outcomes,
-    );
-    match stacked {
-        Stacked::Refused(why) => print_refusal(&rt, b"stacking refused with ", why),
-        Stacked::Regions(_) => {
-            print_outcomes(&rt, &outcomes)?;
-            mesh_and_print(
-                &rt, &xs, &ys, &kinds, &min_x, &min_y, &max_x, &max_y, &z_bottom, &z_top, &starts,
-                &counts, &materials, &nets, &polygons,
-            )
+    let points = Points::of_switch();
+    let regions = match Regions::of_switch(&points) {
+        Ok(regions) => regions,
+        Err(why) => return print_refusal(&rt, "stacking", why),
+    };
+    print_outcomes(&rt, &regions)?;
+    match Mesh::of(&points, &regions) {
+        Ok(mesh) => {
+            print_mesh(&rt, &points, &regions, &mesh)?;
+            write_files(&rt, &points, &regions, &mesh);
         }
+        Err(why) => print_refusal(&rt, "meshing", why)?,
     }
+    print_total(&rt, &points, &regions)
 }

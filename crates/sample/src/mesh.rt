@@ -1,11 +1,12 @@
 // Meshing the switch's regions.
-use crate::layout::{POINTS, REGIONS};
+use crate::layout::{Points, REGIONS};
+use crate::regions::Regions;
 use crate::stack::CONTACT;
-use meshing::{MeshConfig, Meshed, mesh_model_with_options};
-use openrdson_core::Counts;
+use meshing::{MeshConfig, mesh_model_with_options};
+use openrdson_core::{Counts, ElementType, Point3, Refusal};
 
 // How many nodes the mesh has: a box of a by b by c cells (a + 1)(b + 1)(c + 1), a clipped prism two a point, a scanned one eight a quad.
-pub const NODES: usize = 5 * 5 * 2 // active area
+const NODES: usize = 5 * 5 * 2 // active area
     + 2 * 8 // gate
     + 2 * (3 * 13 * 3) // contacts
     + 2 * (2 * 5 * 2) // fingers
@@ -14,7 +15,7 @@ pub const NODES: usize = 5 * 5 * 2 // active area
     + 3 * 4 * 3; // plate
 
 // How many elements: a box has as many as cells, a clipped prism two fewer than points, a scanned one two a quad.
-pub const ELEMENTS: usize = 4 * 4 * 1 // active area
+const ELEMENTS: usize = 4 * 4 * 1 // active area
     + 2 * 2 // gate
     + 2 * (2 * 12 * 2) // contacts
     + 2 * (1 * 4 * 1) // fingers
@@ -23,83 +24,112 @@ pub const ELEMENTS: usize = 4 * 4 * 1 // active area
     + 2 * 3 * 2; // plate
 
 // How many node places.
-pub const PLACES: usize = 8 * ELEMENTS;
+const PLACES: usize = 8 * ELEMENTS;
 
-// A coordinate of a node.
-pub fn coordinate(list: &[f64; NODES], node: usize) -> f64 {
-    if node < NODES {
-        return list[node];
-    }
-    0.0
+// Stands for the region of an element that is not there.
+const NO_REGION: u32 = u32::MAX;
+
+// The mesh, and a diagnostic for each region.
+#[derive(Drop)]
+pub struct Mesh {
+    xs: [f64; NODES],
+    ys: [f64; NODES],
+    zs: [f64; NODES],
+    kinds: [u8; ELEMENTS],
+    places: [u32; PLACES],
+    regions: [u32; ELEMENTS],
+    pub diagnostics: [u32; REGIONS],
+    pub counts: Counts,
 }
 
-// Node j of element k.
-pub fn node_at(places: &[u32; PLACES], k: usize, j: usize) -> u32 {
-    if k < ELEMENTS {
-        if j < 8 {
-            return places[8 * k + j];
-        }
-    }
-    0
+// An element: its kind, its eight node places, and its region.
+#[derive(Clone, Copy)]
+pub struct Element<'a> {
+    pub kind: ElementType,
+    pub places: &'a [u32; 8],
+    pub region: u32,
 }
 
-// Meshes the regions in cells of 2 by 2 by 0.5 micrometres, the contacts in finer ones. The caller gets the mesh and a diagnostic for each
-// region.
-pub fn mesh_regions(
-    point_x: &[f64; POINTS],
-    point_y: &[f64; POINTS],
-    kinds: &[u8; REGIONS],
-    min_x: &[f64; REGIONS],
-    min_y: &[f64; REGIONS],
-    max_x: &[f64; REGIONS],
-    max_y: &[f64; REGIONS],
-    z_bottom: &[f64; REGIONS],
-    z_top: &[f64; REGIONS],
-    starts: &[u32; REGIONS],
-    counts: &[u32; REGIONS],
-    materials: &[u32; REGIONS],
-    nets: &[u32; REGIONS],
-    polygons: &[u32; REGIONS],
-    xs: &mut [f64; NODES],
-    ys: &mut [f64; NODES],
-    zs: &mut [f64; NODES],
-    element_kinds: &mut [u8; ELEMENTS],
-    places: &mut [u32; PLACES],
-    element_regions: &mut [u32; ELEMENTS],
-    diagnostics: &mut [u32; REGIONS],
-) -> Meshed {
-    mesh_model_with_options(
-        kinds,
-        min_x,
-        min_y,
-        max_x,
-        max_y,
-        z_bottom,
-        z_top,
-        starts,
-        counts,
-        materials,
-        nets,
-        polygons,
-        point_x,
-        point_y,
-        &[CONTACT],
-        &[0.5e-6],
-        &[0.25e-6],
-        MeshConfig {
-            lateral_cell: 2e-6,
-            z_cell: 0.5e-6,
-        },
-        Counts {
+const CONFIG: MeshConfig = MeshConfig {
+    lateral_cell: 2e-6,
+    z_cell: 0.5e-6,
+};
+
+impl Mesh {
+    const EMPTY: Self = Self {
+        xs: [0.0; NODES],
+        ys: [0.0; NODES],
+        zs: [0.0; NODES],
+        kinds: [0; ELEMENTS],
+        places: [0; PLACES],
+        regions: [NO_REGION; ELEMENTS],
+        diagnostics: [0; REGIONS],
+        counts: Counts {
             nodes: 0,
             elements: 0,
         },
-        xs,
-        ys,
-        zs,
-        element_kinds,
-        places,
-        element_regions,
-        diagnostics,
-    )
+    };
+
+    // Meshes the regions in cells of 2 by 2 by 0.5 micrometres, the contacts in finer ones.
+    pub fn of(points: &Points, regions: &Regions) -> Result<Self, Refusal> {
+        let mut to = Self::EMPTY;
+        let meshed = mesh_model_with_options(
+            &regions.kinds,
+            &regions.min_x,
+            &regions.min_y,
+            &regions.max_x,
+            &regions.max_y,
+            &regions.z_bottom,
+            &regions.z_top,
+            &regions.starts,
+            &regions.counts,
+            &regions.materials,
+            &regions.nets,
+            &regions.polygons,
+            &points.xs,
+            &points.ys,
+            &[CONTACT],
+            &[0.5e-6],
+            &[0.25e-6],
+            CONFIG,
+            to.counts,
+            &mut to.xs,
+            &mut to.ys,
+            &mut to.zs,
+            &mut to.kinds,
+            &mut to.places,
+            &mut to.regions,
+            &mut to.diagnostics,
+        );
+        let counts = meshed?;
+        Ok(Self { counts, ..to })
+    }
+
+    // A node, or the origin where there is none.
+    pub fn node(&self, i: usize) -> Point3 {
+        let x = self.xs.get(i).copied().unwrap_or(0.0);
+        let y = self.ys.get(i).copied().unwrap_or(0.0);
+        let z = self.zs.get(i).copied().unwrap_or(0.0);
+        Point3 { x, y, z }
+    }
+
+    // Element k, if there is one.
+    pub fn element(&self, k: usize) -> Option<Element<'_>> {
+        let kind = ElementType::try_from(*self.kinds.get(k)?).ok()?;
+        let places = self.places.get(k.saturating_mul(8)..)?.first_chunk()?;
+        let region = *self.regions.get(k)?;
+        Some(Element {
+            kind,
+            places,
+            region,
+        })
+    }
+
+    // How many elements a region has.
+    pub fn elements_of(&self, region: usize) -> usize {
+        self.regions
+            .iter()
+            .filter(|r| **r as usize == region)
+            .count()
+    }
 }

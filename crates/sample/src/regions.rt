@@ -1,209 +1,126 @@
-// The switch's regions: meshing them, and a line for each. The region lists are as long as there are regions, and are lent whole.
+// The switch's regions: stacking them, and each by its number. The lists are as long as there are regions, and are lent whole.
 ghost use Rattle.std.specs.Prelude.{◌<◌};
 
-use crate::files::write_files;
-use crate::layout::{POINTS, REGIONS};
-use crate::mesh::{ELEMENTS, NODES, PLACES, mesh_regions};
-use crate::report::{print_measured, print_mesh, print_refusal, print_region};
-use geometry::total_volume;
-use meshing::Meshed;
-use openrdson_core::Solid;
-use std::io;
-use std::rt::{Env, Files};
+use crate::layout::{Layout, POLYGONS, Points, REGIONS};
+use crate::stack;
+use geometry::{assemble_stack, total_volume};
+use openrdson_core::{Refusal, Solid};
 
-// Stands for the region of an element that is not there.
-const NO_REGION: u32 = 4294967295;
-
-// The solid of row i.
-fn solid_at(
-    kinds: &[u8; REGIONS],
-    min_x: &[f64; REGIONS],
-    min_y: &[f64; REGIONS],
-    max_x: &[f64; REGIONS],
-    max_y: &[f64; REGIONS],
-    z_bottom: &[f64; REGIONS],
-    z_top: &[f64; REGIONS],
-    starts: &[u32; REGIONS],
-    counts: &[u32; REGIONS],
-    i: usize,
-) -> Solid
-    requires { i < 12 }
-{
-    let z_bottom = z_bottom[i];
-    let z_top = z_top[i];
-    if kinds[i] == 0 {
-        let min_x = min_x[i];
-        let min_y = min_y[i];
-        let max_x = max_x[i];
-        let max_y = max_y[i];
-        return Solid::Box {
-            min_x,
-            min_y,
-            max_x,
-            max_y,
-            z_bottom,
-            z_top,
-        };
-    }
-    let start = starts[i];
-    let count = counts[i];
-    Solid::Prism {
-        z_bottom,
-        z_top,
-        start,
-        count,
-    }
+#[derive(Drop)]
+pub struct Regions {
+    pub kinds: [u8; REGIONS],
+    pub min_x: [f64; REGIONS],
+    pub min_y: [f64; REGIONS],
+    pub max_x: [f64; REGIONS],
+    pub max_y: [f64; REGIONS],
+    pub z_bottom: [f64; REGIONS],
+    pub z_top: [f64; REGIONS],
+    pub starts: [u32; REGIONS],
+    pub counts: [u32; REGIONS],
+    pub materials: [u32; REGIONS],
+    pub nets: [u32; REGIONS],
+    pub polygons: [u32; REGIONS],
+    // What became of each polygon.
+    pub outcomes: [u8; POLYGONS],
 }
 
-// How many elements a region has.
-fn elements_of(element_regions: &[u32], region: u32) -> u64 {
-    let mut n = 0u64;
-    let mut k = 0;
-    while k < element_regions.len() {
-        if element_regions[k] == region {
-            n = std::num::wrapping_add_u64(n, 1);
-        }
-        k += 1;
-    }
-    n
-}
+impl Regions {
+    const NONE: Self = Self {
+        kinds: [0; REGIONS],
+        min_x: [0.0; REGIONS],
+        min_y: [0.0; REGIONS],
+        max_x: [0.0; REGIONS],
+        max_y: [0.0; REGIONS],
+        z_bottom: [0.0; REGIONS],
+        z_top: [0.0; REGIONS],
+        starts: [0; REGIONS],
+        counts: [0; REGIONS],
+        materials: [0; REGIONS],
+        nets: [0; REGIONS],
+        polygons: [0; REGIONS],
+        outcomes: [0; POLYGONS],
+    };
 
-// A line for each region.
-fn print_regions(
-    rt: &impl Print,
-    xs: &[f64; POINTS],
-    ys: &[f64; POINTS],
-    kinds: &[u8; REGIONS],
-    min_x: &[f64; REGIONS],
-    min_y: &[f64; REGIONS],
-    max_x: &[f64; REGIONS],
-    max_y: &[f64; REGIONS],
-    z_bottom: &[f64; REGIONS],
-    z_top: &[f64; REGIONS],
-    starts: &[u32; REGIONS],
-    counts: &[u32; REGIONS],
-    materials: &[u32; REGIONS],
-    polygons: &[u32; REGIONS],
-    element_regions: &[u32; ELEMENTS],
-    diagnostics: &[u32; REGIONS],
-) -> io::Result<()> {
-    let mut i = 0;
-    while i < REGIONS {
-        let solid = solid_at(
-            kinds, min_x, min_y, max_x, max_y, z_bottom, z_top, starts, counts, i,
+    // Stacks the switch.
+    pub fn of_switch(points: &Points) -> Result<Self, Refusal> {
+        let layout = Layout::of_switch();
+        let mut to = Self::NONE;
+        let stacked = assemble_stack(
+            &stack::layer_names(),
+            &stack::conducting(),
+            &stack::via(),
+            &stack::conductors(),
+            &stack::diffusions(),
+            &stack::vias(),
+            &layout.layers,
+            &layout.nets,
+            &layout.starts,
+            &layout.counts,
+            &points.xs,
+            &points.ys,
+            &mut to.kinds,
+            &mut to.min_x,
+            &mut to.min_y,
+            &mut to.max_x,
+            &mut to.max_y,
+            &mut to.z_bottom,
+            &mut to.z_top,
+            &mut to.starts,
+            &mut to.counts,
+            &mut to.materials,
+            &mut to.nets,
+            &mut to.polygons,
+            &mut to.outcomes,
         );
-        print_region(
-            rt,
-            i,
-            polygons[i],
-            kinds[i],
-            materials[i],
-            diagnostics[i],
-            elements_of(element_regions, i as u32),
-            solid.volume(xs, ys),
-        )?;
-        i += 1;
+        stacked.map(|_| to)
     }
-    Ok(())
-}
 
-// Meshes the regions, prints a line for each, one for the mesh and one for the volume, and writes the files that are asked for.
-pub fn mesh_and_print<R: Env + Eprint + Files + Print>(
-    rt: &R,
-    xs: &[f64; POINTS],
-    ys: &[f64; POINTS],
-    kinds: &[u8; REGIONS],
-    min_x: &[f64; REGIONS],
-    min_y: &[f64; REGIONS],
-    max_x: &[f64; REGIONS],
-    max_y: &[f64; REGIONS],
-    z_bottom: &[f64; REGIONS],
-    z_top: &[f64; REGIONS],
-    starts: &[u32; REGIONS],
-    counts: &[u32; REGIONS],
-    materials: &[u32; REGIONS],
-    nets: &[u32; REGIONS],
-    polygons: &[u32; REGIONS],
-) -> io::Result<()> {
-    let mut node_x = [0.0; NODES];
-    let mut node_y = [0.0; NODES];
-    let mut node_z = [0.0; NODES];
-    let mut element_kinds = [0; ELEMENTS];
-    let mut places = [0; PLACES];
-    let mut element_regions = [NO_REGION; ELEMENTS];
-    let mut diagnostics = [0; REGIONS];
-    let meshed = mesh_regions(
-        xs,
-        ys,
-        kinds,
-        min_x,
-        min_y,
-        max_x,
-        max_y,
-        z_bottom,
-        z_top,
-        starts,
-        counts,
-        materials,
-        nets,
-        polygons,
-        &mut node_x,
-        &mut node_y,
-        &mut node_z,
-        &mut element_kinds,
-        &mut places,
-        &mut element_regions,
-        &mut diagnostics,
-    );
-    match meshed {
-        Meshed::Refused(why) => print_refusal(rt, b"meshing refused with ", why)?,
-        Meshed::Done(mesh) => {
-            print_regions(
-                rt,
-                xs,
-                ys,
-                kinds,
-                min_x,
-                min_y,
-                max_x,
-                max_y,
+    // The solid of region i.
+    pub fn solid(&self, i: usize) -> Solid
+        requires { i < 12 }
+    {
+        let z_bottom = self.z_bottom[i];
+        let z_top = self.z_top[i];
+        if self.kinds[i] == 0 {
+            return Solid::Box {
+                min_x: self.min_x[i],
+                min_y: self.min_y[i],
+                max_x: self.max_x[i],
+                max_y: self.max_y[i],
                 z_bottom,
                 z_top,
-                starts,
-                counts,
-                materials,
-                polygons,
-                &element_regions,
-                &diagnostics,
-            )?;
-            print_mesh(rt, mesh.nodes, mesh.elements)?;
-            write_files(
-                rt,
-                xs,
-                ys,
-                kinds,
-                min_x,
-                min_y,
-                max_x,
-                max_y,
-                z_bottom,
-                starts,
-                counts,
-                materials,
-                &diagnostics,
-                &node_x,
-                &node_y,
-                &node_z,
-                &element_kinds,
-                &places,
-                &element_regions,
-                mesh,
-            );
+            };
+        }
+        Solid::Prism {
+            z_bottom,
+            z_top,
+            start: self.starts[i],
+            count: self.counts[i],
         }
     }
-    let total = total_volume(
-        kinds, min_x, min_y, max_x, max_y, z_bottom, z_top, starts, counts, materials, nets,
-        polygons, xs, ys,
-    );
-    print_measured(rt, b"total volume: ", total)
+
+    // A region's material, and 0 where there is no such region.
+    pub fn material(&self, region: u32) -> u32 {
+        self.materials.get(region as usize).copied().unwrap_or(0)
+    }
+
+    // The volume of all.
+    pub fn volume(&self, points: &Points) -> Result<f64, Refusal> {
+        total_volume(
+            &self.kinds,
+            &self.min_x,
+            &self.min_y,
+            &self.max_x,
+            &self.max_y,
+            &self.z_bottom,
+            &self.z_top,
+            &self.starts,
+            &self.counts,
+            &self.materials,
+            &self.nets,
+            &self.polygons,
+            &points.xs,
+            &points.ys,
+        )
+    }
 }

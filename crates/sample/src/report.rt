@@ -1,71 +1,81 @@
 // The lines that are printed.
-use crate::layout::POLYGONS;
-use openrdson_core::{Measured, Refusal};
-use std::io;
+use crate::layout::{Points, REGIONS};
+use crate::mesh::Mesh;
+use crate::regions::Regions;
+use openrdson_core::{Refusal, Solid};
+use std::{fmt, io};
 
-fn print_number(rt: &impl Print, label: &[u8], n: u64) -> io::Result<()> {
-    rt.write_all(label)?;
-    print!(rt; "{n}")
-}
+// A volume, shown in cubic micrometres to the nearest thousandth.
+#[derive(Clone, Copy)]
+struct Volume(f64);
 
-pub fn print_refusal(rt: &impl Print, label: &[u8], why: Refusal) -> io::Result<()> {
-    print_number(rt, label, why.number() as u64)?;
-    println!(rt)
-}
-
-// A volume in cubic micrometres, to the nearest thousandth.
-fn print_volume(rt: &impl Print, volume: f64) -> io::Result<()> {
-    let n = binary64::ceil_capped(volume * 1e21 - 0.5);
-    println!(rt; "{}.{:03} um^3", n / 1000, n % 1000)
-}
-
-pub fn print_measured(rt: &impl Print, label: &[u8], measured: Measured) -> io::Result<()> {
-    match measured {
-        Measured::Refused(why) => print_refusal(rt, b"volume refused with ", why),
-        Measured::Value(volume) => {
-            rt.write_all(label)?;
-            print_volume(rt, volume)
-        }
+impl fmt::Display for Volume {
+    fn fmt<W: fmt::Write>(&self, f: &mut fmt::Formatter<W>) -> fmt::Result {
+        let n = binary64::ceil_capped(self.0 * 1e21 - 0.5);
+        write!(f, "{}.{:03} um^3", n / 1000, n % 1000)
     }
 }
 
-fn print_outcome(rt: &impl Print, i: usize, outcome: u8) -> io::Result<()> {
-    let text = match outcome {
-        0 => "0 box",
-        1 => "1 prism",
-        2 => "2 unnamed layer",
-        3 => "3 marker",
-        4 => "4 unmatched",
-        _ => "5 no z range",
-    };
-    println!(rt; "polygon {i}: {text}")
+pub fn print_refusal(rt: &impl Print, label: &str, why: Refusal) -> io::Result<()> {
+    let number = u32::from(why);
+    println!(rt; "{label} refused with {number}")
 }
 
-pub fn print_outcomes(rt: &impl Print, outcomes: &[u8; POLYGONS]) -> io::Result<()> {
-    let mut i = 0;
-    while i < POLYGONS {
-        print_outcome(rt, i, outcomes[i])?;
-        i += 1;
+// The rest of a line.
+fn print_measured(rt: &impl Print, label: &str, measured: Result<f64, Refusal>) -> io::Result<()> {
+    match measured {
+        Ok(volume) => {
+            let volume = Volume(volume);
+            println!(rt; "{label}{volume}")
+        }
+        Err(why) => print_refusal(rt, "volume", why),
+    }
+}
+
+pub fn print_total(rt: &impl Print, points: &Points, regions: &Regions) -> io::Result<()> {
+    print_measured(rt, "total volume: ", regions.volume(points))
+}
+
+// What became of each polygon.
+pub fn print_outcomes(rt: &impl Print, regions: &Regions) -> io::Result<()> {
+    for (i, outcome) in regions.outcomes.iter().enumerate() {
+        let text = match *outcome {
+            0 => "0 box",
+            1 => "1 prism",
+            2 => "2 unnamed layer",
+            3 => "3 marker",
+            4 => "4 unmatched",
+            _ => "5 no z range",
+        };
+        println!(rt; "polygon {i}: {text}")?;
     }
     Ok(())
 }
 
-pub fn print_region(
+// A line for each region, and one for the mesh.
+pub fn print_mesh(
     rt: &impl Print,
-    i: usize,
-    polygon: u32,
-    kind: u8,
-    material: u32,
-    diagnostic: u32,
-    elements: u64,
-    volume: Measured,
+    points: &Points,
+    regions: &Regions,
+    mesh: &Mesh,
 ) -> io::Result<()> {
-    print!(rt; "region {i} of polygon {polygon}: ")?;
-    rt.print(if kind == 0 { "box" } else { "prism" })?;
-    print!(rt; ", material {material}, diagnostic {diagnostic}, elements {elements}")?;
-    print_measured(rt, b", volume ", volume)
-}
-
-pub fn print_mesh(rt: &impl Print, nodes: usize, elements: usize) -> io::Result<()> {
-    println!(rt; "mesh: {nodes} nodes, {elements} elements")
+    for i in 0..REGIONS {
+        let solid = regions.solid(i);
+        let polygon = regions.polygons[i];
+        let shape = if matches!(solid, Solid::Box { .. }) {
+            "box"
+        } else {
+            "prism"
+        };
+        let material = regions.materials[i];
+        let diagnostic = mesh.diagnostics[i];
+        let elements = mesh.elements_of(i);
+        print!(rt; "region {i} of polygon {polygon}: {shape}, material {material}")?;
+        print!(rt; ", diagnostic {diagnostic}, elements {elements}")?;
+        print_measured(rt, ", volume ", solid.volume(&points.xs, &points.ys))?;
+    }
+    println!(rt;
+        "mesh: {} nodes, {} elements",
+        mesh.counts.nodes, mesh.counts.elements
+    )
 }

@@ -2,387 +2,138 @@
 // the plan of its lowest elements; what meshing refused is hatched.
 ghost use Rattle.std.specs.Prelude.{◌<◌};
 
-use crate::layout::{POINTS, REGIONS};
-use crate::legend::{LAYERS, layer_material, put_head, put_legend, put_paint};
-use crate::mesh::{ELEMENTS, NODES, PLACES, coordinate, node_at};
-use crate::out::{SIZE, put, put_byte, put_decimal, put_nanometres, room};
+use crate::layout::{Points, REGIONS};
+use crate::legend::{Layer, Paint, layers, put_head, put_legend};
+use crate::mesh::{Element, Mesh};
+use crate::regions::Regions;
+use openrdson_core::{ElementType, Solid};
 use std::io::Write;
+use std::{fmt, io};
 
-// A letter of a path, and a point.
-fn put_point(buffer: &mut [u8; SIZE], at: usize, letter: u8, x: f64, y: f64) -> usize {
-    let at = put_byte(buffer, at, letter);
-    let at = put_nanometres(buffer, at, x);
-    let at = put_byte(buffer, at, b' ');
-    put_nanometres(buffer, at, y)
-}
+// A length, shown in whole nanometres.
+#[derive(Clone, Copy)]
+struct Length(f64);
 
-fn letter(is_first: bool) -> u8 {
-    if is_first { b'M' } else { b'L' }
-}
-
-// Point i of a ring that starts at a place of the point lists.
-fn put_ring_point(
-    buffer: &mut [u8; SIZE],
-    at: usize,
-    xs: &[f64; POINTS],
-    ys: &[f64; POINTS],
-    start: u32,
-    i: u32,
-) -> usize {
-    let k = start as usize + i as usize;
-    if k < POINTS {
-        return put_point(buffer, at, letter(i == 0), xs[k], ys[k]);
+impl fmt::Display for Length {
+    fn fmt<W: fmt::Write>(&self, f: &mut fmt::Formatter<W>) -> fmt::Result {
+        let sign = if self.0 < 0.0 { "-" } else { "" };
+        let n = binary64::ceil_capped(binary64::abs(self.0) * 1e9 - 0.5);
+        write!(f, "{sign}{n}")
     }
-    at
 }
 
-fn put_ring(
-    file: &mut impl Write,
-    buffer: &mut [u8; SIZE],
-    at: usize,
-    xs: &[f64; POINTS],
-    ys: &[f64; POINTS],
-    start: u32,
-    count: u32,
-) -> usize {
-    let mut at = at;
-    let mut i = 0u32;
-    while i < count {
-        at = put_ring_point(buffer, at, xs, ys, start, i);
-        at = room(file, buffer, at);
-        i += 1;
-    }
-    at
+// A path's step to a point.
+fn put_step(out: &mut impl Write, is_first: bool, x: f64, y: f64) -> io::Result<()> {
+    let letter = if is_first { 'M' } else { 'L' };
+    let x = Length(x);
+    let y = Length(y);
+    write!(out, "{letter}{x} {y}")
 }
 
-fn put_rectangle(buffer: &mut [u8; SIZE], at: usize, x0: f64, y0: f64, x1: f64, y1: f64) -> usize {
-    let at = put_point(buffer, at, b'M', x0, y0);
-    let at = put_point(buffer, at, b'L', x1, y0);
-    let at = put_point(buffer, at, b'L', x1, y1);
-    put_point(buffer, at, b'L', x0, y1)
-}
-
-// Node j of element k.
-fn put_node(
-    buffer: &mut [u8; SIZE],
-    at: usize,
-    xs: &[f64; NODES],
-    ys: &[f64; NODES],
-    places: &[u32; PLACES],
-    k: usize,
-    j: usize,
-) -> usize {
-    let node = node_at(places, k, j) as usize;
-    put_point(
-        buffer,
-        at,
-        letter(j == 0),
-        coordinate(xs, node),
-        coordinate(ys, node),
-    )
-}
-
-// The plan of element k: a hex's four lower nodes, or a prism's three.
-fn put_element(
-    buffer: &mut [u8; SIZE],
-    at: usize,
-    xs: &[f64; NODES],
-    ys: &[f64; NODES],
-    places: &[u32; PLACES],
-    kind: u8,
-    k: usize,
-) -> usize {
-    let at = put_node(buffer, at, xs, ys, places, k, 0);
-    let at = put_node(buffer, at, xs, ys, places, k, 1);
-    let at = put_node(buffer, at, xs, ys, places, k, 2);
-    if kind == 1 {
-        let at = put_node(buffer, at, xs, ys, places, k, 3);
-        return put_byte(buffer, at, b'Z');
-    }
-    put_byte(buffer, at, b'Z')
-}
-
-// The plan of a region's elements that stand at height z.
-fn put_elements(
-    file: &mut impl Write,
-    buffer: &mut [u8; SIZE],
-    at: usize,
-    xs: &[f64; NODES],
-    ys: &[f64; NODES],
-    zs: &[f64; NODES],
-    kinds: &[u8; ELEMENTS],
-    places: &[u32; PLACES],
-    regions: &[u32; ELEMENTS],
-    region: u32,
-    z: f64,
-) -> usize {
-    let mut at = at;
-    let mut k = 0;
-    while k < ELEMENTS {
-        if regions[k] == region {
-            if coordinate(zs, node_at(places, k, 0) as usize) == z {
-                at = put_element(buffer, at, xs, ys, places, kinds[k], k);
-                at = room(file, buffer, at);
-            }
+// The ring of a part of the points.
+fn put_ring(out: &mut impl Write, points: &Points, start: u32, count: u32) -> io::Result<()> {
+    for i in 0..count {
+        if let Some((x, y)) = points.at(start as usize + i as usize) {
+            put_step(out, i == 0, x, y)?;
         }
-        k += 1;
     }
-    at
+    Ok(())
 }
 
-// The outline of region i, not yet closed.
-fn put_footprint(
-    file: &mut impl Write,
-    buffer: &mut [u8; SIZE],
-    at: usize,
-    point_x: &[f64; POINTS],
-    point_y: &[f64; POINTS],
-    region_kinds: &[u8; REGIONS],
-    min_x: &[f64; REGIONS],
-    min_y: &[f64; REGIONS],
-    max_x: &[f64; REGIONS],
-    max_y: &[f64; REGIONS],
-    starts: &[u32; REGIONS],
-    counts: &[u32; REGIONS],
-    i: usize,
-) -> usize
-    requires { i < 12 }
-{
-    if region_kinds[i] == 0 {
-        return put_rectangle(buffer, at, min_x[i], min_y[i], max_x[i], max_y[i]);
-    }
-    put_ring(file, buffer, at, point_x, point_y, starts[i], counts[i])
-}
-
-// A region's group: its number and its paint.
-fn put_group(
-    buffer: &mut [u8; SIZE],
-    at: usize,
-    i: usize,
-    material: u32,
-    diagnostic: u32,
-) -> usize {
-    let at = put(buffer, at, b"<g id='region-");
-    let at = put_decimal(buffer, at, i as u64);
-    let at = put(buffer, at, b"' ");
-    let at = put_paint(buffer, at, material, diagnostic != 0);
-    put(buffer, at, b"><path stroke-width='45' d='")
-}
-
-fn put_region(
-    file: &mut impl Write,
-    buffer: &mut [u8; SIZE],
-    at: usize,
-    point_x: &[f64; POINTS],
-    point_y: &[f64; POINTS],
-    region_kinds: &[u8; REGIONS],
-    min_x: &[f64; REGIONS],
-    min_y: &[f64; REGIONS],
-    max_x: &[f64; REGIONS],
-    max_y: &[f64; REGIONS],
-    z_bottom: &[f64; REGIONS],
-    starts: &[u32; REGIONS],
-    counts: &[u32; REGIONS],
-    materials: &[u32; REGIONS],
-    diagnostics: &[u32; REGIONS],
-    xs: &[f64; NODES],
-    ys: &[f64; NODES],
-    zs: &[f64; NODES],
-    kinds: &[u8; ELEMENTS],
-    places: &[u32; PLACES],
-    regions: &[u32; ELEMENTS],
-    i: usize,
-) -> usize
-    requires { i < 12 }
-{
-    let at = put_group(buffer, at, i, materials[i], diagnostics[i]);
-    let at = put_footprint(
-        file,
-        buffer,
-        at,
-        point_x,
-        point_y,
-        region_kinds,
-        min_x,
-        min_y,
-        max_x,
-        max_y,
-        starts,
-        counts,
-        i,
-    );
-    let at = put(buffer, at, b"Z'/>\n<path fill='none' d='");
-    let z = z_bottom[i];
-    let at = put_elements(
-        file, buffer, at, xs, ys, zs, kinds, places, regions, i as u32, z,
-    );
-    let at = put(buffer, at, b"'/></g>\n");
-    room(file, buffer, at)
-}
-
-// The regions of a material.
-fn put_layer(
-    file: &mut impl Write,
-    buffer: &mut [u8; SIZE],
-    at: usize,
-    point_x: &[f64; POINTS],
-    point_y: &[f64; POINTS],
-    region_kinds: &[u8; REGIONS],
-    min_x: &[f64; REGIONS],
-    min_y: &[f64; REGIONS],
-    max_x: &[f64; REGIONS],
-    max_y: &[f64; REGIONS],
-    z_bottom: &[f64; REGIONS],
-    starts: &[u32; REGIONS],
-    counts: &[u32; REGIONS],
-    materials: &[u32; REGIONS],
-    diagnostics: &[u32; REGIONS],
-    xs: &[f64; NODES],
-    ys: &[f64; NODES],
-    zs: &[f64; NODES],
-    kinds: &[u8; ELEMENTS],
-    places: &[u32; PLACES],
-    regions: &[u32; ELEMENTS],
-    material: u32,
-) -> usize {
-    let mut at = at;
-    let mut i = 0;
-    while i < REGIONS {
-        if materials[i] == material {
-            at = put_region(
-                file,
-                buffer,
-                at,
-                point_x,
-                point_y,
-                region_kinds,
-                min_x,
-                min_y,
-                max_x,
-                max_y,
-                z_bottom,
-                starts,
-                counts,
-                materials,
-                diagnostics,
-                xs,
-                ys,
-                zs,
-                kinds,
-                places,
-                regions,
-                i,
-            );
-        }
-        i += 1;
-    }
-    at
-}
-
-// The regions of every layer, from the bottom to the top.
-fn put_layers(
-    file: &mut impl Write,
-    buffer: &mut [u8; SIZE],
-    at: usize,
-    point_x: &[f64; POINTS],
-    point_y: &[f64; POINTS],
-    region_kinds: &[u8; REGIONS],
-    min_x: &[f64; REGIONS],
-    min_y: &[f64; REGIONS],
-    max_x: &[f64; REGIONS],
-    max_y: &[f64; REGIONS],
-    z_bottom: &[f64; REGIONS],
-    starts: &[u32; REGIONS],
-    counts: &[u32; REGIONS],
-    materials: &[u32; REGIONS],
-    diagnostics: &[u32; REGIONS],
-    xs: &[f64; NODES],
-    ys: &[f64; NODES],
-    zs: &[f64; NODES],
-    kinds: &[u8; ELEMENTS],
-    places: &[u32; PLACES],
-    regions: &[u32; ELEMENTS],
-) -> usize {
-    let mut at = at;
-    let mut n = 0;
-    while n < LAYERS {
-        at = put_layer(
-            file,
-            buffer,
-            at,
-            point_x,
-            point_y,
-            region_kinds,
+// The outline of a solid, not yet closed.
+fn put_footprint(out: &mut impl Write, points: &Points, solid: Solid) -> io::Result<()> {
+    match solid {
+        Solid::Box {
             min_x,
             min_y,
             max_x,
             max_y,
-            z_bottom,
-            starts,
-            counts,
-            materials,
-            diagnostics,
-            xs,
-            ys,
-            zs,
-            kinds,
-            places,
-            regions,
-            layer_material(n),
-        );
-        n += 1;
+            z_bottom: _,
+            z_top: _,
+        } => {
+            put_step(out, true, min_x, min_y)?;
+            put_step(out, false, max_x, min_y)?;
+            put_step(out, false, max_x, max_y)?;
+            put_step(out, false, min_x, max_y)
+        }
+        Solid::Prism {
+            z_bottom: _,
+            z_top: _,
+            start,
+            count,
+        } => put_ring(out, points, start, count),
     }
-    at
 }
 
-// The whole file, but for what is left in the buffer.
+// The plan of an element: a hex's four lower nodes, or a prism's three.
+fn put_element(out: &mut impl Write, mesh: &Mesh, element: Element<'_>) -> io::Result<()> {
+    let n = match element.kind {
+        ElementType::Hex => 4,
+        _ => 3,
+    };
+    let places = element.places;
+    for (j, place) in places[..n].iter().enumerate() {
+        let node = mesh.node(*place as usize);
+        put_step(out, j == 0, node.x, node.y)?;
+    }
+    out.write_all(b"Z")
+}
+
+// The plan of a region's elements that stand at height z.
+fn put_elements(out: &mut impl Write, mesh: &Mesh, region: usize, z: f64) -> io::Result<()> {
+    for k in 0..mesh.counts.elements {
+        if let Some(element) = mesh.element(k) {
+            let first = mesh.node(element.places[0] as usize);
+            if element.region as usize == region && first.z == z {
+                put_element(out, mesh, element)?;
+            }
+        }
+    }
+    Ok(())
+}
+
+// Region i's group: its outline and the plan of its elements.
+fn put_region(
+    out: &mut impl Write,
+    points: &Points,
+    regions: &Regions,
+    mesh: &Mesh,
+    layer: Layer,
+    i: usize,
+) -> io::Result<()>
+    requires { i < 12 }
+{
+    let paint = match mesh.diagnostics[i] {
+        0 => Paint::Colour(layer.colour),
+        _ => Paint::Hatch,
+    };
+    let solid = regions.solid(i);
+    write!(
+        out,
+        "<g id='region-{i}' {paint}><path stroke-width='45' d='"
+    )?;
+    put_footprint(out, points, solid)?;
+    write!(out, "Z'/>\n<path fill='none' d='")?;
+    put_elements(out, mesh, i, solid.z_bottom())?;
+    writeln!(out, "'/></g>")
+}
+
+// The whole file: the regions of every layer, from the bottom to the top.
 pub fn put_plan(
-    file: &mut impl Write,
-    buffer: &mut [u8; SIZE],
-    point_x: &[f64; POINTS],
-    point_y: &[f64; POINTS],
-    region_kinds: &[u8; REGIONS],
-    min_x: &[f64; REGIONS],
-    min_y: &[f64; REGIONS],
-    max_x: &[f64; REGIONS],
-    max_y: &[f64; REGIONS],
-    z_bottom: &[f64; REGIONS],
-    starts: &[u32; REGIONS],
-    counts: &[u32; REGIONS],
-    materials: &[u32; REGIONS],
-    diagnostics: &[u32; REGIONS],
-    xs: &[f64; NODES],
-    ys: &[f64; NODES],
-    zs: &[f64; NODES],
-    kinds: &[u8; ELEMENTS],
-    places: &[u32; PLACES],
-    regions: &[u32; ELEMENTS],
-) -> usize {
-    let at = put_head(buffer, 0);
-    let at = put_layers(
-        file,
-        buffer,
-        at,
-        point_x,
-        point_y,
-        region_kinds,
-        min_x,
-        min_y,
-        max_x,
-        max_y,
-        z_bottom,
-        starts,
-        counts,
-        materials,
-        diagnostics,
-        xs,
-        ys,
-        zs,
-        kinds,
-        places,
-        regions,
-    );
-    let at = put(buffer, at, b"</g>\n");
-    let at = put_legend(file, buffer, at);
-    put(buffer, at, b"</svg>\n")
+    out: &mut impl Write,
+    points: &Points,
+    regions: &Regions,
+    mesh: &Mesh,
+) -> io::Result<()> {
+    put_head(out)?;
+    for layer in layers() {
+        for i in 0..REGIONS {
+            if regions.materials[i] == layer.material {
+                put_region(out, points, regions, mesh, layer, i)?;
+            }
+        }
+    }
+    writeln!(out, "</g>")?;
+    put_legend(out)?;
+    writeln!(out, "</svg>")
 }

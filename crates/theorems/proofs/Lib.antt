@@ -7,3 +7,4 @@ pub mod RegionSome
 pub mod RefusalNumbers
 pub mod ModelMarks
 pub mod Welded
+pub mod Lent

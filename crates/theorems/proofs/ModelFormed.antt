@@ -5,15 +5,17 @@ use mathlib.Core.Bool.{true}
 use mathlib.Core.List.{List}
 use lib.ListN.{length}
 use lib.Ieee.{Float}
+use Rattle.std.specs.Prelude.{Result}
 use Rattle.lists.specs.Answer.{Answer, refused, given, map_answer, left}
 use Rattle.lists.specs.Lists.{fold_below}
 use Rattle.lists.proofs.Answers.{passed_then, given_same}
 use Rattle.openrdson_core.specs.Mesh.{Mesh, well_formed}
+use Rattle.openrdson_core.specs.Answers.{answer}
 use Rattle.openrdson_core.specs.declared.mesh.Counts.{Counts}
+use Rattle.openrdson_core.specs.declared.refusals.Refusal.{Refusal}
 use Rattle.geometry.specs.Regions.{Regions, region_at}
-use Rattle.meshing.specs.declared.boxes.Meshed.{Meshed}
 use Rattle.meshing.specs.declared.cells.MeshConfig.{MeshConfig}
-use Rattle.meshing.specs.Added.{Part, grown, added, meshed_answer}
+use Rattle.meshing.specs.Added.{Part, grown, added}
 use Rattle.meshing.specs.Regions.{mesh_region}
 use Rattle.meshing.specs.Models.{Overrides, config_for, Run, row_part, tried, run_to, mesh_model, ModelAs}
 use Rattle.theorems.proofs.WellFormed.{region_well_formed}
@@ -41,11 +43,11 @@ module _ (r : Regions) (px py : List Float) (o : Overrides) (default : MeshConfi
   run_well_formed c m h (suc n) = tried_well_formed (run_to r px py o default c m n) n (run_well_formed c m h n)
 
   -- what the call leaves, with the counts that it gives or those that it had
-  pub model_well_formed : (c : Counts) (m m' : Mesh) (d : ℕ) (ds ds' : List ℕ) (a : Meshed) → ModelAs (mesh_model r px py o default c m d) m ds a m' ds' → well_formed c m ≡ true
-      → well_formed (left (meshed_answer a) c) m' ≡ true
+  pub model_well_formed : (c : Counts) (m m' : Mesh) (d : ℕ) (ds ds' : List ℕ) (a : Result Counts Refusal) → ModelAs (mesh_model r px py o default c m d) m ds a m' ds' → well_formed c m ≡ true
+      → well_formed (left (answer a) c) m' ≡ true
   model_well_formed c m m' d ds ds' a x w = of (mesh_model r px py o default c m d) refl x
     where
-      of : (b : Answer Run) → mesh_model r px py o default c m d ≡ b → ModelAs b m ds a m' ds' → well_formed (left (meshed_answer a) c) m' ≡ true
+      of : (b : Answer Run) → mesh_model r px py o default c m d ≡ b → ModelAs b m ds a m' ds' → well_formed (left (answer a) c) m' ≡ true
       of (refused k) e x = rw (x.answer, x.mesh) w
       of (given s) e x =
           let t = passed_then (job_judged r px py o default c m d) (λ _. given (run_to r px py o default c m (length r.kinds))) (sym (model_is r px py o default c m d) ∙ e) in

@@ -11,7 +11,7 @@ use mathlib.Core.Path.{◌≡◌, refl, sym, ap, ◌∙◌, subst}
 use mathlib.Core.Bool.{Bool, true, false, not, ◌||◌, cond, true≢false}
 use mathlib.Core.List.{List, [], ◌∷◌, ◌++◌, map}
 use mathlib.Core.Logic.{◌⊎◌, inl, inr, ⊎_elim}
-use mathlib.Core.Option.{Option, some, none}
+use Rattle.std.specs.Prelude.{Option, Some, None}
 use native.Mathlib.Nat.{eq-or-lt_of_le}
 use native.Mathlib.Omega.{arith}
 use lib.Dec.{eqb, ltb}
@@ -220,8 +220,8 @@ unfolding within_lengths
 within_own nodes elements = rw (le-leb nodes nodes (omega arith), le-leb elements elements (omega arith))
 
 used_eight : (o : Option ElementType) → used_places o ≤ 8
-used_eight (some t) = used_most t
-used_eight none = omega arith
+used_eight (Some t) = used_most t
+used_eight None = omega arith
 
 -- places that f changes: it leaves an unused one, and takes those of a mesh of `nodes` nodes to those of one of `now` nodes
 module _ (f : ℕ → ℕ) (before after : List ℕ) (each : (i : ℕ) → i < 8 → get_or after i 0 ≡ f (get_or before i 0)) where

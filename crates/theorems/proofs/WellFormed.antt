@@ -16,6 +16,7 @@ use native.Mathlib.Omega.{arith}
 use lib.Dec.{eqb, leb, ltb}
 use lib.ListN.{length, get_or, length-append}
 use lib.Ieee.{Float, nan, lt}
+use Rattle.std.specs.Prelude.{Result}
 use borrow.Author.Tests.{eqb-true, leb-true, lt-ltb, le-leb}
 use Rattle.lists.specs.Answer.{Answer, refused, given, map_answer, left}
 use Rattle.lists.specs.Lists.{runs, elems, part, all_below, joined, Below}
@@ -28,17 +29,18 @@ use Rattle.lists.proofs.Passing.{all_of_at}
 use Rattle.lists.proofs.Places.{below_at, gather_length}
 use Rattle.lists.proofs.Scans.{both, all_at, all_from}
 use Rattle.openrdson_core.specs.Mesh.{Mesh, the_counts, unused, kind_number, kind_of, known, used_places, parallel, within_lengths, within, fits, rest_unused, first_below, kind_at, places_of, well_formed}
+use Rattle.openrdson_core.specs.Answers.{answer}
 use Rattle.openrdson_core.specs.Solids.{prism_fault}
 use Rattle.openrdson_core.specs.Bounds.{the_bbox}
 use Rattle.openrdson_core.specs.declared.mesh.Counts.{Counts}
 use Rattle.openrdson_core.specs.declared.mesh.ElementType.TheVariants as kind
+use Rattle.openrdson_core.specs.declared.refusals.Refusal.{Refusal}
 use Rattle.openrdson_core.specs.declared.bounds.Bbox.{Bbox}
 use Rattle.openrdson_core.specs.declared.solids.Solid.{Solid}
 use Rattle.openrdson_core.specs.declared.solids.Solid.TheVariants.{Box, Prism}
 use Rattle.openrdson_core.proofs.MeshLaws.{equal_lengths, room_for, rest_start, first_wider, Valid, WellFormed, well_formed_lem, formed_well}
-use Rattle.meshing.specs.declared.boxes.Meshed.{Meshed}
 use Rattle.meshing.specs.declared.cells.MeshConfig.{MeshConfig}
-use Rattle.meshing.specs.Added.{Part, grown, added, fit_part, meshed_answer, Adds, element_appended, PartSound}
+use Rattle.meshing.specs.Added.{Part, grown, added, fit_part, Adds, element_appended, PartSound}
 use Rattle.meshing.specs.Grid.{grid_nodes, grid_cells, hex_places}
 use Rattle.meshing.specs.Boxes.{Axis, coordinate, box_part, mesh_box, BoxCells, box_of_cells, box_judged}
 use Rattle.meshing.specs.Ring.{kept, gathered}
@@ -429,11 +431,11 @@ module _ (s : Solid) (material : ℕ) (config : MeshConfig) (c : Counts) (px py 
   region_well_formed region w = added_well_formed c region m p w region_sound region_fits
 
 -- what a region call leaves, refused or not, with the counts that it gives or those that it had
-pub call_well_formed : (s : Solid) (material : ℕ) (config : MeshConfig) (c : Counts) (px py : List Float) (region : ℕ) (m m' : Mesh) (r : Meshed)
-    → Adds (mesh_region s material config c px py m) c region m m' r → well_formed c m ≡ true → well_formed (left (meshed_answer r) c) m' ≡ true
+pub call_well_formed : (s : Solid) (material : ℕ) (config : MeshConfig) (c : Counts) (px py : List Float) (region : ℕ) (m m' : Mesh) (r : Result Counts Refusal)
+    → Adds (mesh_region s material config c px py m) c region m m' r → well_formed c m ≡ true → well_formed (left (answer r) c) m' ≡ true
 call_well_formed s material config c px py region m m' r x w = at (mesh_region s material config c px py m) refl x
   where
-    at : (a : Answer Part) → mesh_region s material config c px py m ≡ a → Adds a c region m m' r → well_formed (left (meshed_answer r) c) m' ≡ true
+    at : (a : Answer Part) → mesh_region s material config c px py m ≡ a → Adds a c region m m' r → well_formed (left (answer r) c) m' ≡ true
     at (refused n) e x = rw (x.answer, x.lists) w
     at (given p) e x = rw (x.answer, x.lists) (region_well_formed s material config c px py m p e region w)
 

@@ -1,9 +1,8 @@
 // Name blocks: markers, empty blocks, a block of one row that has none, and maps of one row, a to b and a to cc.
-#![tactic(auto)]
+#![tactic(auto, unfolding(worked::proofs::OnShapes::on_names))]
 
 use check::expect;
-use openrdson_core::{check_blocks, is_marker, look_up};
-use worked::{check_fine, check_refused, is_found, lookup_refused};
+use openrdson_core::{Refusal, check_blocks, is_marker, look_up};
 
 fn markers() {
     expect(is_marker(b"seed_x"));
@@ -15,15 +14,15 @@ fn markers() {
 fn empties() {
     let empty = [0, 0];
     let damaged = [1, 0];
-    expect(check_fine(check_blocks(&empty, &empty, &empty, &empty, &empty, &empty)));
-    expect(check_refused(
-        check_blocks(&empty, &empty, &empty, &empty, &empty, &damaged),
-        14,
-    ));
-    expect(check_refused(
-        check_blocks(&damaged, &empty, &empty, &empty, &empty, &empty),
-        14,
-    ));
+    expect(check_blocks(&empty, &empty, &empty, &empty, &empty, &empty) == Ok(()));
+    expect(
+        check_blocks(&empty, &empty, &empty, &empty, &empty, &damaged)
+            == Err(Refusal::BlockDamaged),
+    );
+    expect(
+        check_blocks(&damaged, &empty, &empty, &empty, &empty, &empty)
+            == Err(Refusal::BlockDamaged),
+    );
 }
 
 fn lookups() {
@@ -38,10 +37,10 @@ fn lookups() {
     second[2] = 97;
     second[34] = 99;
     second[35] = 99;
-    expect(is_found(look_up(&first, &empty, b"a"), true));
-    expect(is_found(look_up(&empty, &second, b"a"), true));
-    expect(is_found(look_up(&first, &empty, b"b"), false));
-    expect(lookup_refused(look_up(&first, &damaged, b"a"), 14));
+    expect(look_up(&first, &empty, b"a") == Ok(true));
+    expect(look_up(&empty, &second, b"a") == Ok(true));
+    expect(look_up(&first, &empty, b"b") == Ok(false));
+    expect(look_up(&first, &damaged, b"a") == Err(Refusal::BlockDamaged));
 }
 
 fn main() {

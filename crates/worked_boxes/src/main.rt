@@ -1,21 +1,18 @@
 // Cells, coordinates, the default cell sizes, and the box 0..2 by 0..1 by 0..1 in cells of 1.
-#![tactic(auto)]
+#![tactic(auto, unfolding(worked_meshed::proofs::OnRegions::on_boxes))]
 
-mod answers;
-
-use answers::{cells_refused, coordinate_refused, is_cells, is_coordinate};
 use check::expect;
 use meshing::{MeshConfig, axis_coordinate, cell_count, mesh_box};
-use openrdson_core::{Bbox, Counts, Material};
-use worked_meshed::is_meshed;
+use openrdson_core::{Bbox, Material, Refusal};
+use worked_meshed::{EMPTY, UNIT_CELLS, counts_of};
 
 fn cells() {
-    expect(is_cells(cell_count(2.0, 1.0), 2));
-    expect(is_cells(cell_count(0.5, 1.0), 1));
-    expect(cells_refused(cell_count(4097.0, 1.0), 7));
-    expect(cells_refused(cell_count(0.0, 0.0), 5));
-    expect(is_coordinate(axis_coordinate(0.0, 2.0, 1.0, 1), 1.0));
-    expect(coordinate_refused(axis_coordinate(0.0, 2.0, 1.0, 3), 15));
+    expect(cell_count(2.0, 1.0) == Ok(2));
+    expect(cell_count(0.5, 1.0) == Ok(1));
+    expect(cell_count(4097.0, 1.0) == Err(Refusal::TooManyCells));
+    expect(cell_count(0.0, 0.0) == Err(Refusal::DegenerateBox));
+    expect(axis_coordinate(0.0, 2.0, 1.0, 1) == Ok(1.0));
+    expect(axis_coordinate(0.0, 2.0, 1.0, 3) == Err(Refusal::OutsideList));
 }
 
 fn hexes() {
@@ -24,14 +21,6 @@ fn hexes() {
         min_y: 0.0,
         max_x: 2.0,
         max_y: 1.0,
-    };
-    let config = MeshConfig {
-        lateral_cell: 1.0,
-        z_cell: 1.0,
-    };
-    let counts = Counts {
-        nodes: 0,
-        elements: 0,
     };
     let mut xs = [9.0; 12];
     let mut ys = [9.0; 12];
@@ -45,8 +34,8 @@ fn hexes() {
         1.0,
         Material(1),
         7,
-        config,
-        counts,
+        UNIT_CELLS,
+        EMPTY,
         &mut xs,
         &mut ys,
         &mut zs,
@@ -54,7 +43,7 @@ fn hexes() {
         &mut places,
         &mut regions,
     );
-    expect(is_meshed(meshed, 12, 2));
+    expect(meshed == Ok(counts_of(12, 2)));
     expect((xs[1] == 1.0) & (xs[2] == 2.0) & (xs[3] == 0.0));
     expect((places[2] == 4) & (places[3] == 3) & (places[8] == 1));
     expect((kinds[1] == 1) & (regions[1] == 7));

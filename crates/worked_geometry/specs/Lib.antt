@@ -1,2 +1,2 @@
--- What the checks ask of an answer, and the region list of the totals.
+-- The region list of the totals.
 pub mod Expected

@@ -1,13 +1,13 @@
 // Extruding and the total volume: the bow-tie, a triangle, a box of explicit bounds, and the total of a box and a prism.
-#![tactic(auto)]
+#![tactic(auto, unfolding(crate::proofs::OnSolids::on_solids))]
 
-mod answers;
+mod regions;
 mod rows;
 
-use answers::{is_region, is_total, region_of, region_refused, total_refused};
 use check::expect;
 use geometry::{extrude_box, extrude_polygon};
-use openrdson_core::{Bbox, Material, Solid};
+use openrdson_core::{Bbox, Material, Refusal, Solid};
+use regions::region_of;
 use rows::total_of_two;
 
 fn bow_tie() {
@@ -23,9 +23,9 @@ fn bow_tie() {
     };
     let expected = region_of(768, solid);
     let built = extrude_polygon(&xs, &ys, 0.0, 3.0, Material(768), 5);
-    expect(is_region(built, expected));
+    expect(built == Ok(expected));
     let past = extrude_polygon(&xs, &ys, 0.0, 3.0, Material(769), 5);
-    expect(region_refused(past, 15));
+    expect(past == Err(Refusal::OutsideList));
 }
 
 fn triangle() {
@@ -39,9 +39,9 @@ fn triangle() {
     };
     let expected = region_of(0, solid);
     let built = extrude_polygon(&xs, &ys, 2.0, 0.0, Material(0), 5);
-    expect(is_region(built, expected));
+    expect(built == Ok(expected));
     let no_top = extrude_polygon(&xs, &ys, 2.0, 0.0 / 0.0, Material(769), 5);
-    expect(region_refused(no_top, 1));
+    expect(no_top == Err(Refusal::NumberOutOfRange));
 }
 
 fn boxes() {
@@ -61,11 +61,11 @@ fn boxes() {
     };
     let expected = region_of(768, solid);
     let built = extrude_box(sides, 1.0, 0.0, Material(768), 5);
-    expect(is_region(built, expected));
+    expect(built == Ok(expected));
     let past = extrude_box(sides, 1.0, 0.0, Material(769), 5);
-    expect(region_refused(past, 15));
+    expect(past == Err(Refusal::OutsideList));
     let endless = extrude_box(sides, 1.0 / 0.0, 0.0, Material(769), 5);
-    expect(region_refused(endless, 1));
+    expect(endless == Err(Refusal::NumberOutOfRange));
 }
 
 fn totals() {
@@ -75,11 +75,11 @@ fn totals() {
     let no_kind = [0, 2];
     let materials = [1, 768];
     let sum = total_of_two(&kinds, &materials, 3.0, &xs, &ys);
-    expect(is_total(sum, 7.0));
+    expect(sum == Ok(7.0));
     let outside = total_of_two(&no_kind, &materials, 3.0, &xs, &ys);
-    expect(total_refused(outside, 15));
-    let endless = total_of_two(&no_kind, &materials, 0.0 / 0.0, &xs, &ys);
-    expect(total_refused(endless, 1));
+    expect(outside == Err(Refusal::OutsideList));
+    let no_height = total_of_two(&no_kind, &materials, 0.0 / 0.0, &xs, &ys);
+    expect(no_height == Err(Refusal::NumberOutOfRange));
 }
 
 fn main() {

@@ -1,9 +1,6 @@
 // Stacking: a square on a named layer, and one on a layer without a name.
-#![tactic(auto)]
+#![tactic(auto, unfolding(crate::proofs::OnLayouts::on_layouts))]
 
-mod answers;
-
-use answers::is_count;
 use check::expect;
 use geometry::assemble_stack;
 
@@ -68,7 +65,7 @@ fn squares() {
         &mut polygons,
         &mut outcomes,
     );
-    expect(is_count(stacked, 1));
+    expect(stacked == Ok(1));
     expect(outcomes[0] == 0);
     expect(outcomes[1] == 2);
     expect(materials[0] == 1);

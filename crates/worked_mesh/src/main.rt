@@ -1,25 +1,24 @@
 // Meshes: the four kinds, lists of a tet and a hex, the room in a list of eight, and a tet beside a pyramid that has one place too many.
-#![tactic(auto)]
+#![tactic(auto, unfolding(worked::proofs::OnShapes::on_meshes))]
 
 use check::expect;
 use openrdson_core::{
     Counts, ElementType, Point3, counts_within, element_inside, element_sound, has_room,
     lists_parallel,
 };
-use worked::{kind_is, kind_unknown};
 
 fn kinds() {
-    expect(ElementType::Tet.number() == 0);
-    expect(ElementType::Hex.number() == 1);
-    expect(ElementType::Prism.number() == 2);
-    expect(ElementType::Pyramid.number() == 3);
+    expect(u8::from(ElementType::Tet) == 0);
+    expect(u8::from(ElementType::Hex) == 1);
+    expect(u8::from(ElementType::Prism) == 2);
+    expect(u8::from(ElementType::Pyramid) == 3);
     expect(ElementType::Tet.node_count() == 4);
     expect(ElementType::Hex.node_count() == 8);
     expect(ElementType::Prism.node_count() == 6);
     expect(ElementType::Pyramid.node_count() == 5);
-    expect(kind_is(2, 2));
-    expect(kind_is(3, 3));
-    expect(kind_unknown(4));
+    expect(ElementType::try_from(2) == Ok(ElementType::Prism));
+    expect(ElementType::try_from(3) == Ok(ElementType::Pyramid));
+    expect(ElementType::try_from(4).is_err());
 }
 
 fn lengths() {

@@ -1,29 +1,27 @@
-// What a region call answers, compared with what is expected.
+// What the programs of meshes share: counts, and cells of 1.
 #![tactic(auto)]
 
 ghost use Rattle.std.specs.Prelude.{◌≡◌};
-ghost use Rattle.meshing.specs.Added.{meshed_answer};
-ghost use Rattle.worked.specs.Asked.{is_refused};
-ghost use Rattle.worked_meshed.specs.Expected.{is_counts};
+ghost use Rattle.openrdson_core.specs.Mesh.{the_counts};
 
-use meshing::Meshed;
+use meshing::MeshConfig;
+use openrdson_core::Counts;
 
-// The answer is these numbers of nodes and of elements.
-pub fn is_meshed(a: Meshed, nodes: usize, elements: usize) -> bool
-    ensures { result ≡ is_counts (meshed_answer a) nodes elements }
+// No nodes and no elements.
+pub const EMPTY: Counts = Counts {
+    nodes: 0,
+    elements: 0,
+};
+
+// Cells of 1, across and in height.
+pub const UNIT_CELLS: MeshConfig = MeshConfig {
+    lateral_cell: 1.0,
+    z_cell: 1.0,
+};
+
+// So many nodes and elements.
+pub fn counts_of(nodes: usize, elements: usize) -> Counts
+    ensures { result ≡ the_counts nodes elements }
 {
-    match a {
-        Meshed::Refused(_) => false,
-        Meshed::Done(counts) => (counts.nodes == nodes) & (counts.elements == elements),
-    }
-}
-
-// The answer is the refusal with this number.
-pub fn meshed_refused(a: Meshed, number: u32) -> bool
-    ensures { result ≡ is_refused (meshed_answer a) number }
-{
-    match a {
-        Meshed::Refused(why) => why.number() == number,
-        Meshed::Done(_) => false,
-    }
+    Counts { nodes, elements }
 }

@@ -1,22 +1,10 @@
 // Models: refused regions amid others, and a job with too few diagnostics.
-#![tactic(auto)]
+#![tactic(auto, unfolding(worked_meshed::proofs::OnModels::on_models))]
 
 use check::expect;
-use meshing::{MeshConfig, mesh_model};
-use openrdson_core::Counts;
-use worked_meshed::{is_meshed, meshed_refused};
-
-// No nodes and no elements.
-const EMPTY: Counts = Counts {
-    nodes: 0,
-    elements: 0,
-};
-
-// Cells of 1.
-const CELLS: MeshConfig = MeshConfig {
-    lateral_cell: 1.0,
-    z_cell: 1.0,
-};
+use meshing::mesh_model;
+use openrdson_core::Refusal;
+use worked_meshed::{EMPTY, UNIT_CELLS, counts_of};
 
 // A box; a row of no known kind, refused with 15; a box of two cells, for which there is no room, 12; a box, meshed after the first: its hex carries 3.
 fn refused_amid() {
@@ -56,7 +44,7 @@ fn refused_amid() {
         &polygons,
         &point_x,
         &point_y,
-        CELLS,
+        UNIT_CELLS,
         EMPTY,
         &mut xs,
         &mut ys,
@@ -66,7 +54,7 @@ fn refused_amid() {
         &mut regions,
         &mut diagnostics,
     );
-    expect(is_meshed(amid, 16, 2));
+    expect(amid == Ok(counts_of(16, 2)));
     expect((diagnostics[0] == 0) & (diagnostics[1] == 15));
     expect((diagnostics[2] == 12) & (diagnostics[3] == 0));
     expect(diagnostics[4] == 9);
@@ -112,7 +100,7 @@ fn short_diagnostics() {
         &polygons,
         &point_x,
         &point_y,
-        CELLS,
+        UNIT_CELLS,
         EMPTY,
         &mut xs,
         &mut ys,
@@ -122,7 +110,7 @@ fn short_diagnostics() {
         &mut regions,
         &mut diagnostics,
     );
-    expect(meshed_refused(short, 12));
+    expect(short == Err(Refusal::OutputTooShort));
     expect((xs[0] == 9.0) & (diagnostics[0] == 9));
 }
 

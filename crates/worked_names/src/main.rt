@@ -1,10 +1,9 @@
 // Names in blocks: layer -2 is named a, the via v goes up from m and has no top, maps of one row lead from a to b and from a to cc, and a map of two leads from a and b to c.
-#![tactic(auto)]
+#![tactic(auto, unfolding(worked::proofs::OnShapes::on_names))]
 
 use check::expect;
-use worked::{
-    layer_name_is, layer_name_refused, physical_name_is, place_is, place_starts, via_absent, via_is,
-};
+use openrdson_core::{Refusal, layer_name, physical_name, via_layers};
+use worked::{layer_name_is, place_is, place_starts, via_is};
 
 fn layers() {
     let damaged = [1, 0];
@@ -14,7 +13,7 @@ fn layers() {
     names[3] = 255;
     names[4] = 97;
     expect(layer_name_is(&names, -2, b"a"));
-    expect(layer_name_refused(&damaged, -2, 14));
+    expect(layer_name(&damaged, -2) == Err(Refusal::BlockDamaged));
 }
 
 fn vias() {
@@ -23,7 +22,7 @@ fn vias() {
     vias[2] = 118;
     vias[34] = 109;
     expect(via_is(&vias, b"v", b"m", b""));
-    expect(via_absent(&vias, b"m"));
+    expect(via_layers(&vias, b"m") == Ok(None));
 }
 
 fn places() {
@@ -39,8 +38,8 @@ fn places() {
     second[35] = 99;
     expect(place_is(&first, &second, b"a", b"b"));
     expect(place_is(&empty, &second, b"a", b"cc"));
-    expect(physical_name_is(&first, &second, b"a", b"b"));
-    expect(physical_name_is(&second, &first, b"a", b"cc"));
+    expect(physical_name(&first, &second, b"a") == b"b".as_slice());
+    expect(physical_name(&second, &first, b"a") == b"cc".as_slice());
 }
 
 // The same physical name twice: each row's own.

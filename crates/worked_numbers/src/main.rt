@@ -1,5 +1,5 @@
 // Numbers: sizes and roots, rounding, and the limits of what is admitted.
-#![tactic(auto)]
+#![tactic(auto, unfolding(worked::proofs::OnShapes::on_numbers))]
 
 use binary64::{
     abs, ceil_capped, coordinate_in_range, extent_in_range, figure_in_range, from_bits, infinity,

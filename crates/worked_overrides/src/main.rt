@@ -1,16 +1,10 @@
 // Models with overrides: cell sizes by material.
-#![tactic(auto)]
+#![tactic(auto, unfolding(worked_meshed::proofs::OnModels::on_models))]
 
 use check::expect;
 use meshing::{MeshConfig, mesh_model_with_options};
-use openrdson_core::Counts;
-use worked_meshed::{is_meshed, meshed_refused};
-
-// No nodes and no elements.
-const EMPTY: Counts = Counts {
-    nodes: 0,
-    elements: 0,
-};
+use openrdson_core::Refusal;
+use worked_meshed::{EMPTY, counts_of};
 
 // Cells of 4, where no override is: each box below is one.
 const CELLS: MeshConfig = MeshConfig {
@@ -72,7 +66,7 @@ fn overrides() {
         &mut regions,
         &mut diagnostics,
     );
-    expect(is_meshed(later, 12, 2));
+    expect(later == Ok(counts_of(12, 2)));
     expect(diagnostics[0] == 0);
     expect(xs[1] == 1.0);
 }
@@ -131,7 +125,7 @@ fn unnamed_override() {
         &mut regions,
         &mut diagnostics,
     );
-    expect(meshed_refused(unnamed, 15));
+    expect(unnamed == Err(Refusal::OutsideList));
     expect(diagnostics[0] == 9);
 }
 

@@ -1,22 +1,10 @@
 // Prisms: document 01's L, two edges that cross at one place, plates about 1e-30 in area, and regions.
-#![tactic(auto)]
+#![tactic(auto, unfolding(worked_meshed::proofs::OnPrisms::on_regions))]
 
 use check::expect;
-use meshing::{MeshConfig, mesh_prism, mesh_region};
-use openrdson_core::{Counts, Material, PolygonNumber, Solid, SolidRegion};
-use worked_meshed::{is_meshed, meshed_refused};
-
-// No nodes and no elements.
-const EMPTY: Counts = Counts {
-    nodes: 0,
-    elements: 0,
-};
-
-// Cells of 1.
-const CELLS: MeshConfig = MeshConfig {
-    lateral_cell: 1.0,
-    z_cell: 1.0,
-};
+use meshing::{mesh_prism, mesh_region};
+use openrdson_core::{Material, PolygonNumber, Refusal, Solid, SolidRegion};
+use worked_meshed::{EMPTY, UNIT_CELLS, counts_of};
 
 // A box of 1 by 1 by 1.
 const CUBE: SolidRegion = SolidRegion {
@@ -60,7 +48,7 @@ fn l_shape() {
         &mut places,
         &mut regions,
     );
-    expect(is_meshed(quads, 16, 4));
+    expect(quads == Ok(counts_of(16, 4)));
     expect((places[3] == 4) & (places[6] == 4294967295) & (places[16] == 8));
     expect((xs[1] == 2.0) & (xs[9] == 1.0));
     expect((kinds[3] == 2) & (regions[3] == 7));
@@ -93,7 +81,7 @@ fn tie() {
         &mut places,
         &mut regions,
     );
-    expect(is_meshed(crossed, 16, 4));
+    expect(crossed == Ok(counts_of(16, 4)));
     expect((xs[1] == 2.0) & (xs[2] == 4.0));
 }
 
@@ -124,7 +112,7 @@ fn flat_plate() {
         &mut places,
         &mut regions,
     );
-    expect(meshed_refused(flat, 11));
+    expect(flat == Err(Refusal::NoTrapezoid));
     expect(xs[0] == 9.0);
 }
 
@@ -155,7 +143,7 @@ fn thin_plate() {
         &mut places,
         &mut regions,
     );
-    expect(is_meshed(thin, 8, 2));
+    expect(thin == Ok(counts_of(8, 2)));
 }
 
 // A region that is a prism, clipped: bottom nodes 0 to 3, top nodes 4 to 7.
@@ -184,7 +172,7 @@ fn clipped() {
         &point_x,
         &point_y,
         5,
-        CELLS,
+        UNIT_CELLS,
         EMPTY,
         &mut xs,
         &mut ys,
@@ -193,7 +181,7 @@ fn clipped() {
         &mut places,
         &mut regions,
     );
-    expect(is_meshed(prisms, 8, 2));
+    expect(prisms == Ok(counts_of(8, 2)));
     expect((places[3] == 4) & (places[13] == 7));
     expect(zs[4] == 1.0);
     expect(regions[1] == 5);
@@ -214,7 +202,7 @@ fn box_region() {
         &point_x,
         &point_y,
         5,
-        CELLS,
+        UNIT_CELLS,
         EMPTY,
         &mut xs,
         &mut ys,
@@ -223,7 +211,7 @@ fn box_region() {
         &mut places,
         &mut regions,
     );
-    expect(is_meshed(hex, 8, 1));
+    expect(hex == Ok(counts_of(8, 1)));
 }
 
 // The same box, beside point lists of unequal length.
@@ -241,7 +229,7 @@ fn unequal_points() {
         &point_x,
         &point_y,
         5,
-        CELLS,
+        UNIT_CELLS,
         EMPTY,
         &mut xs,
         &mut ys,
@@ -250,7 +238,7 @@ fn unequal_points() {
         &mut places,
         &mut regions,
     );
-    expect(meshed_refused(unequal, 16));
+    expect(unequal == Err(Refusal::UnequalLists));
 }
 
 fn main() {

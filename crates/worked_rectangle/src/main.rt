@@ -1,26 +1,26 @@
 // The rectangle test: a box is a ring on the four corners of its bounds, in any order.
-#![tactic(auto)]
+#![tactic(auto, unfolding(worked::proofs::OnShapes::on_shapes))]
 
 use check::expect;
-use worked::{rectangle_is, rectangle_refused};
+use openrdson_core::{Refusal, is_axis_aligned_rectangle};
 
 fn rectangles() {
     let bow_tie_xs = [0.0, 1.0, 1.0, 0.0];
     let bow_tie_ys = [0.0, 1.0, 0.0, 1.0];
-    expect(rectangle_is(&bow_tie_xs, &bow_tie_ys, true));
+    expect(is_axis_aligned_rectangle(&bow_tie_xs, &bow_tie_ys) == Ok(true));
     let triangle_xs = [0.0, 1.0, 0.0];
     let triangle_ys = [0.0, 0.0, 1.0];
-    expect(rectangle_is(&triangle_xs, &triangle_ys, false));
+    expect(is_axis_aligned_rectangle(&triangle_xs, &triangle_ys) == Ok(false));
     let l_xs = [0.0, 2.0, 2.0, 1.0, 1.0, 0.0];
     let l_ys = [0.0, 0.0, 1.0, 1.0, 2.0, 2.0];
-    expect(rectangle_is(&l_xs, &l_ys, false));
+    expect(is_axis_aligned_rectangle(&l_xs, &l_ys) == Ok(false));
     let line = [0.0, 1.0, 2.0];
     let level = [0.0, 0.0, 0.0];
-    expect(rectangle_is(&line, &level, false));
+    expect(is_axis_aligned_rectangle(&line, &level) == Ok(false));
     let nan = 0.0 / 0.0;
     let wild = [0.0, 1.0, nan];
-    expect(rectangle_refused(&l_xs, &wild, 16));
-    expect(rectangle_refused(&line, &wild, 1));
+    expect(is_axis_aligned_rectangle(&l_xs, &wild) == Err(Refusal::UnequalLists));
+    expect(is_axis_aligned_rectangle(&line, &wild) == Err(Refusal::NumberOutOfRange));
 }
 
 fn main() {

@@ -1,9 +1,8 @@
 // Stacks: one layer m of height 1, the same with an infinite height or another flag, a diffusion n and a via v.
-#![tactic(auto)]
+#![tactic(auto, unfolding(worked::proofs::OnShapes::on_names))]
 
 use check::expect;
-use openrdson_core::{check_blocks, material_number, stack_layer};
-use worked::{check_refused, height_is, is_material, layer_refused, material_refused};
+use openrdson_core::{Figures, Material, Refusal, check_blocks, material_number, stack_layer};
 
 fn stacks() {
     let empty = [0, 0];
@@ -24,12 +23,16 @@ fn stacks() {
     flagged[0] = 1;
     flagged[2] = 109;
     flagged[34] = 4;
-    expect(is_material(material_number(&stack, &empty, &empty, b"m"), 1));
-    expect(is_material(material_number(&stack, &empty, &empty, b"x"), 0));
-    expect(material_refused(material_number(&stack, &empty, &damaged, b"m"), 14));
-    expect(height_is(stack_layer(&stack, b"m"), 1.0));
-    expect(layer_refused(stack_layer(&endless, b"m"), 1));
-    expect(layer_refused(stack_layer(&flagged, b"m"), 14));
+    expect(material_number(&stack, &empty, &empty, b"m") == Ok(Material(1)));
+    expect(material_number(&stack, &empty, &empty, b"x") == Ok(Material(0)));
+    expect(material_number(&stack, &empty, &damaged, b"m") == Err(Refusal::BlockDamaged));
+    let high = Figures {
+        height: Some(1.0),
+        thickness: None,
+    };
+    expect(stack_layer(&stack, b"m") == Ok(Some(high)));
+    expect(stack_layer(&endless, b"m") == Err(Refusal::NumberOutOfRange));
+    expect(stack_layer(&flagged, b"m") == Err(Refusal::BlockDamaged));
 }
 
 fn materials() {
@@ -42,8 +45,8 @@ fn materials() {
     let mut vias = [0; 98];
     vias[0] = 1;
     vias[2] = 118;
-    expect(is_material(material_number(&conductors, &diffusions, &vias, b"n"), 2));
-    expect(is_material(material_number(&conductors, &diffusions, &vias, b"v"), 3));
+    expect(material_number(&conductors, &diffusions, &vias, b"n") == Ok(Material(2)));
+    expect(material_number(&conductors, &diffusions, &vias, b"v") == Ok(Material(3)));
 }
 
 fn figures() {
@@ -55,14 +58,14 @@ fn figures() {
     endless[34] = 1;
     endless[41] = 240;
     endless[42] = 127;
-    expect(check_refused(
-        check_blocks(&empty, &empty, &empty, &empty, &endless, &empty),
-        1,
-    ));
-    expect(check_refused(
-        check_blocks(&empty, &empty, &empty, &endless, &empty, &damaged),
-        14,
-    ));
+    expect(
+        check_blocks(&empty, &empty, &empty, &empty, &endless, &empty)
+            == Err(Refusal::NumberOutOfRange),
+    );
+    expect(
+        check_blocks(&empty, &empty, &empty, &endless, &empty, &damaged)
+            == Err(Refusal::BlockDamaged),
+    );
 }
 
 fn main() {

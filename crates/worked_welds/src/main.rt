@@ -1,10 +1,10 @@
 // Welding and volumes: document 01's nodes, halves, a tet, a prism, and meshes that are refused.
-#![tactic(auto)]
+#![tactic(auto, unfolding(worked_meshed::proofs::OnWhole::on_volumes, worked_meshed::proofs::OnWhole::on_welds))]
 
 use check::expect;
 use meshing::{mesh_volume, weld_nodes};
-use worked::{is_number, number_refused};
-use worked_meshed::{is_meshed, meshed_refused};
+use openrdson_core::Refusal;
+use worked_meshed::counts_of;
 
 // With a tolerance of 1, -0.4 and 0.4 become one node, the first, and 0.6 stays: the tet's places are renumbered, what it does not use stays, and entries past the mesh are kept.
 fn joined() {
@@ -34,7 +34,7 @@ fn joined() {
         &mut out_places,
         &mut out_regions,
     );
-    expect(is_meshed(welded, 2, 1));
+    expect(welded == Ok(counts_of(2, 1)));
     expect((out_x[0] == -0.4) & (out_x[1] == 0.6) & (out_x[2] == 9.0));
     expect((out_places[1] == 0) & (out_places[2] == 1) & (out_places[3] == 0));
     expect(out_places[4] == 4294967295);
@@ -68,7 +68,7 @@ fn halves() {
         &mut out_places,
         &mut out_regions,
     );
-    expect(is_meshed(welded, 3, 0));
+    expect(welded == Ok(counts_of(3, 0)));
 }
 
 // Two nodes of two keys have no room in lists of one: nothing is written.
@@ -98,7 +98,7 @@ fn no_room() {
         &mut out_places,
         &mut out_regions,
     );
-    expect(meshed_refused(welded, 12));
+    expect(welded == Err(Refusal::OutputTooShort));
     expect(out_x[0] == 9.0);
 }
 
@@ -108,7 +108,7 @@ fn tet() {
     let ys = [0.0, 0.0, 2.0, 0.0];
     let zs = [0.0, 0.0, 0.0, 3.0];
     let places = [0, 1, 2, 3, 4294967295, 4294967295, 4294967295, 4294967295];
-    expect(is_number(mesh_volume(&xs, &ys, &zs, &[0], &places, &[0]), 6.0));
+    expect(mesh_volume(&xs, &ys, &zs, &[0], &places, &[0]) == Ok(6.0));
 }
 
 // A prism on a triangle of 3 by 4, 2 high.
@@ -117,7 +117,7 @@ fn prism() {
     let ys = [0.0, 0.0, 4.0, 0.0, 0.0, 4.0];
     let zs = [0.0, 0.0, 0.0, 2.0, 2.0, 2.0];
     let places = [0, 1, 2, 3, 4, 5, 4294967295, 4294967295];
-    expect(is_number(mesh_volume(&xs, &ys, &zs, &[2], &places, &[0]), 12.0));
+    expect(mesh_volume(&xs, &ys, &zs, &[2], &places, &[0]) == Ok(12.0));
 }
 
 // The first element names a node that is not there, and the second is of no kind: 15 comes before 13.
@@ -127,8 +127,8 @@ fn damaged() {
         0, 0, 0, 1, 4294967295, 4294967295, 4294967295, 4294967295, 0, 0, 0, 0, 4294967295,
         4294967295, 4294967295, 4294967295,
     ];
-    expect(number_refused(mesh_volume(&xs, &xs, &xs, &[0, 4], &places, &[0, 0]), 15));
-    expect(number_refused(mesh_volume(&xs, &xs, &xs, &[0, 0], &places, &[0, 0]), 13));
+    expect(mesh_volume(&xs, &xs, &xs, &[0, 4], &places, &[0, 0]) == Err(Refusal::OutsideList));
+    expect(mesh_volume(&xs, &xs, &xs, &[0, 0], &places, &[0, 0]) == Err(Refusal::NodeOutsideMesh));
 }
 
 fn main() {

@@ -71,18 +71,21 @@ fn parameter(one: &str) -> Option<Parameter> {
 /// The fields of a struct, which must be all floats.
 pub fn fields(file: &str, name: &str) -> Vec<String> {
     let text = text(file);
-    let (_, rest) = text.split_once(&format!("#[repr(C)]\n#[derive(Clone, Copy)]\npub struct {name} {{")).unwrap_or_else(|| panic!("{file}: no {name}"));
+    let (before, rest) = text.split_once(&format!("pub struct {name} {{")).unwrap_or_else(|| panic!("{file}: no {name}"));
+    let derives = before.trim_end().lines().last().unwrap_or("");
+    let laid_out = before.trim_end().strip_suffix(derives).is_some_and(|before| before.ends_with("#[repr(C)]\n"));
+    assert!(laid_out && derives.starts_with("#[derive("), "{file}: {name} is not laid out as C's");
     let (body, _) = rest.split_once('}').unwrap();
     let field = |one: &str| one.trim().strip_prefix("pub ").and_then(|one| one.strip_suffix(": f64")).map(str::to_string);
     body.split(',').filter(|one| !one.trim().is_empty()).map(|one| field(one).unwrap_or_else(|| panic!("{file}: {one}"))).collect()
 }
 
-/// The cases of an enum and the number of each, as its `number` gives them.
+/// The cases of an enum and the number of each, as its conversion gives them.
 pub fn numbers(file: &str, name: &str) -> Vec<(String, u32)> {
     let text = text(file);
-    let (_, rest) = text.split_once(&format!("impl {name} {{")).unwrap_or_else(|| panic!("{file}: no {name}"));
-    let (_, rest) = rest.split_once("fn number(").unwrap_or_else(|| panic!("{file}: no number"));
-    let (_, rest) = rest.split_once("match self {").unwrap();
+    let (_, rest) = text.split_once(&format!("impl From<{name}> for u")).unwrap_or_else(|| panic!("{file}: {name} has no number"));
+    let (_, rest) = rest.split_once("match ").unwrap();
+    let (_, rest) = rest.split_once('{').unwrap();
     let (body, _) = rest.split_once('}').unwrap();
     let case = |one: &str| {
         let (case, number) = one.trim().strip_prefix(name)?.strip_prefix("::")?.split_once(" => ")?;

@@ -1,6 +1,12 @@
--- `openrdson_physical_name` meets its contract. Assumes nothing.
-use Rattle.c_api.proofs.Lookups.{same_as, said_as, name_stands}
+use Rattle.c_api.specs.Lookups.{NameStands, name_given}
+use Rattle.c_api.proofs.Lookups.{same_as, said_as, both_ok, name_stands}
+use Rattle.openrdson_core.specs.Maps.{placed}
+use Rattle.std.specs.Prelude.{option_map}
 use Rattle.c_api.proofs.blocks.openrdson_physical_name.Goals as goal
 
 pub returns : goal.returns
-returns c = same_as c.name_place.ensures.0 (said_as _ _ _ (name_stands c.args.conducting.now c.args.via.now c.args.name.now c.name_place.result c.name_place.ensures.1 c.name_place.ensures.2) c.give_name.ensures)
+returns c = let a = c.args in
+    let p = c.name_place in
+    same_as p.ensures.value
+    (said_as (NameStands a.conducting.now a.via.now a.name.now) (option_map (placed a.conducting.now a.via.now)) name_given p.result
+    (both_ok p.result (name_stands a.conducting.now a.via.now a.name.now) p.ensures.within p.ensures.start) c.give_name.ensures)

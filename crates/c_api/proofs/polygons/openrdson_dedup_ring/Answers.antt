@@ -3,4 +3,4 @@ use Rattle.c_api.proofs.PolygonCalls.{given_ring}
 use Rattle.c_api.proofs.polygons.openrdson_dedup_ring.Goals as goal
 
 pub returns : goal.returns
-returns c = given_ring c.dedup_ring-cleaned.ensures c.give_points.ensures
+returns c = given_ring c.dedup_ring.ensures c.give.ensures

@@ -3,4 +3,4 @@ use Rattle.c_api.proofs.StackRows.{given_rows}
 use Rattle.c_api.proofs.stacks.openrdson_assemble_stack.Goals as goal
 
 pub returns : goal.returns
-returns c = given_rows c.assemble_stack-stacked.ensures c.give_count.ensures
+returns c = given_rows c.assemble_stack-stacked.ensures c.give.ensures

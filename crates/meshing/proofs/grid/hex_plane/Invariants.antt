@@ -1,12 +1,8 @@
-use Prim.Native.Nat.{◌+◌, ◌-◌, ◌*◌, ◌≤◌}
-use mathlib.Core.Path.{◌≡◌}
+use Rattle.std.proofs.Common.{◌*◌}
 use Rattle.lists.specs.Lists.{runs}
 use Rattle.meshing.specs.Grid.{hex_at}
 use Rattle.lists.proofs.Fills.{Runs}
 use Rattle.meshing.proofs.grid.hex_plane.Given as goal
 
 abbrev pub invariant-loop-j : goal.invariant-loop-j
-invariant-loop-j l = Runs l.initial.places l.at (λ j. runs l.nx (λ i. hex_at l.a l.nx l.ny i j 0)) (l.nx * 8) l.j l.places × (l.j ≤ l.ny) × (l.p ≡ l.at + l.j * (l.nx * 8)) × (l.b ≡ l.a + l.j * (l.nx + 1))
-
-abbrev pub decreases-loop-j : goal.decreases-loop-j
-decreases-loop-j l = l.ny - l.j
+invariant-loop-j l = Runs l.initial.places l.at (λ j. runs l.nx (λ i. hex_at l.a l.nx l.ny i j 0)) (l.nx * 8) l.j l.places

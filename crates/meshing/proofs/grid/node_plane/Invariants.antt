@@ -1,5 +1,4 @@
-use Prim.Native.Nat.{◌+◌, ◌-◌, ◌*◌, ◌≤◌}
-use mathlib.Core.Path.{◌≡◌}
+use Rattle.std.proofs.Common.{◌+◌}
 use Rattle.lists.specs.Lists.{elems}
 use Rattle.meshing.specs.Cells.{axis_at}
 use Rattle.lists.proofs.Fills.{Runs}
@@ -9,8 +8,3 @@ abbrev pub invariant-loop-j : goal.invariant-loop-j
 invariant-loop-j l = Runs l.initial.xs l.at (λ j. elems (l.nx + 1) (λ i. axis_at l.x0 l.x1 l.nx i)) (l.nx + 1) l.j l.xs
     × Runs l.initial.ys l.at (λ j. elems (l.nx + 1) (λ i. axis_at l.y0 l.y1 l.ny j)) (l.nx + 1) l.j l.ys
     × Runs l.initial.zs l.at (λ j. elems (l.nx + 1) (λ i. l.z)) (l.nx + 1) l.j l.zs
-    × (l.j ≤ l.ny + 1)
-    × (l.p ≡ l.at + l.j * (l.nx + 1))
-
-abbrev pub decreases-loop-j : goal.decreases-loop-j
-decreases-loop-j l = l.ny + 1 - l.j

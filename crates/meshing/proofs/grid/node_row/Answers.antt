@@ -1,39 +1,23 @@
 -- `node_row` meets its contract: the loop writes all places but the last. Assumes nothing.
-use Prim.Native.Nat.{◌+◌}
-use mathlib.Core.Path.{◌≡◌, refl, ◌∙◌}
-use lib.ListN.{length-set}
-use native.Mathlib.Omega.{arith}
+use Rattle.std.proofs.Common.{◌≡◌, ◌+◌, refl, arith}
 use Rattle.lists.proofs.Fills.{no_elems, one_elem, all_elems}
 use Rattle.meshing.proofs.GridLaws.{axis_inner, axis_last}
 use Rattle.meshing.proofs.grid.node_row.Goals as goal
 
 pub loop-i-init : goal.loop-i-init
-loop-i-init c = (no_elems _ _ _, no_elems _ _ _, no_elems _ _ _, omega arith)
+loop-i-init c = (no_elems _ _ _, no_elems _ _ _, no_elems _ _ _)
 
 pub loop-i-preserved : goal.loop-i-preserved
 loop-i-preserved c = let a = c.args in
-    let inv = c.loop-i.invariant in
-    let room = c.requires in
-    let more = c.loop-i-test.true in (
-      one_elem inv.0 refl (omega arith) (axis_inner a.x0 a.x1 a.step a.nx c.loop-i.i room.sizes.1 more),
+    let inv = c.loop-i.invariant in (
+      one_elem inv.0 refl (omega arith) (axis_inner a.x0 a.x1 a.step a.nx c.loop-i.i c.requires.sizes.1 c.loop-i-test.true),
       one_elem inv.1 refl (omega arith) refl,
       one_elem inv.2 refl (omega arith) refl,
-      omega arith,
     )
-
-pub shape_of-xs : goal.shape_of-xs
-shape_of-xs c = length-set _ _ _ ∙ c.loop-i.invariant.0.long
-
-pub shape_of-ys : goal.shape_of-ys
-shape_of-ys c = length-set _ _ _ ∙ c.loop-i.invariant.1.long
-
-pub shape_of-zs : goal.shape_of-zs
-shape_of-zs c = length-set _ _ _ ∙ c.loop-i.invariant.2.long
 
 pub returns : goal.returns
 returns c = let a = c.args in
     let inv = c.loop-i.invariant in
-    let room = c.requires in
     let done : c.loop-i.i ≡ a.nx = omega arith in
     let place : a.at + a.nx ≡ a.at + c.loop-i.i = omega arith in
     let all : c.loop-i.i + 1 ≡ a.nx + 1 = omega arith in (

@@ -1,10 +1,6 @@
-use Prim.Native.Nat.{◌-◌, ◌≤◌}
 use Rattle.meshing.specs.Cells.{axis_at}
 use Rattle.lists.proofs.Fills.{Elems}
 use Rattle.meshing.proofs.grid.node_row.Given as goal
 
 abbrev pub invariant-loop-i : goal.invariant-loop-i
-invariant-loop-i l = Elems l.initial.xs l.at (axis_at l.x0 l.x1 l.nx) l.i l.xs × Elems l.initial.ys l.at (λ _. l.y) l.i l.ys × Elems l.initial.zs l.at (λ _. l.z) l.i l.zs × (l.i ≤ l.nx)
-
-abbrev pub decreases-loop-i : goal.decreases-loop-i
-decreases-loop-i l = l.nx - l.i
+invariant-loop-i l = Elems l.initial.xs l.at (axis_at l.x0 l.x1 l.nx) l.i l.xs × Elems l.initial.ys l.at (λ _. l.y) l.i l.ys × Elems l.initial.zs l.at (λ _. l.z) l.i l.zs

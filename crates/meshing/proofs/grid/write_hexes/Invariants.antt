@@ -1,12 +1,8 @@
-use Prim.Native.Nat.{◌+◌, ◌-◌, ◌*◌, ◌≤◌}
-use mathlib.Core.Path.{◌≡◌}
+use Rattle.std.proofs.Common.{◌*◌}
 use Rattle.lists.specs.Lists.{runs}
 use Rattle.meshing.specs.Grid.{hex_at}
 use Rattle.lists.proofs.Fills.{Runs}
 use Rattle.meshing.proofs.grid.write_hexes.Given as goal
 
 abbrev pub invariant-loop-k : goal.invariant-loop-k
-invariant-loop-k l = Runs l.initial.places l.at (λ k. runs l.ny (λ j. runs l.nx (λ i. hex_at l.base l.nx l.ny i j k))) (l.ny * (l.nx * 8)) l.k l.places × (l.k ≤ l.nz) × (l.p ≡ l.at + l.k * (l.ny * (l.nx * 8))) × (l.a ≡ l.base + l.k * ((l.nx + 1) * (l.ny + 1)))
-
-abbrev pub decreases-loop-k : goal.decreases-loop-k
-decreases-loop-k l = l.nz - l.k
+invariant-loop-k l = Runs l.initial.places l.at (λ k. runs l.ny (λ j. runs l.nx (λ i. hex_at l.base l.nx l.ny i j k))) (l.ny * (l.nx * 8)) l.k l.places

@@ -1,7 +1,7 @@
-use Prim.Native.Nat.{◌≤◌, ◌-◌}
+use Prim.Native.Nat.{◌≤◌}
 use mathlib.Core.Path.{◌≡◌}
 use mathlib.Core.Bool.{true}
-use lib.ListN.{length, take, drop}
+use lib.ListN.{take, drop}
 use lib.Ieee.{lt}
 use Rattle.lists.specs.Lists.{all_of}
 use Rattle.lists.specs.Sorts.{sort_onto}
@@ -10,7 +10,4 @@ use Rattle.meshing.specs.Levels.{levels, apart}
 use Rattle.meshing.proofs.levels.level_list.Given as goal
 
 abbrev pub invariant-loop-i : goal.invariant-loop-i
-invariant-loop-i l = (l.n ≡ length l.ys) × (length l.out ≡ length l.initial.out) × (l.count ≤ l.i) × (l.i ≤ l.n) × (all_of (at_most 20) (take l.count l.out) ≡ true) × (levels l.ys ≡ apart (sort_onto lt (take l.count l.out) (drop l.i l.ys)))
-
-abbrev pub decreases-loop-i : goal.decreases-loop-i
-decreases-loop-i l = l.n - l.i
+invariant-loop-i l = (l.count ≤ l.i) × (all_of (at_most 20) (take l.count l.out) ≡ true) × (levels l.ys ≡ apart (sort_onto lt (take l.count l.out) (drop l.i l.ys)))

@@ -1,30 +1,33 @@
 -- `mesh_cut` meets its contract: the ring is clipped, and meshed by its triangles or by the scanline. Assumes nothing.
-use Prim.Native.Nat.{◌-◌, ◌*◌}
-use mathlib.Core.Path.{sym}
-use native.Mathlib.Omega.{arith}
-use lib.ListN.{length, take}
-use lib.Seq.{length-take-le}
-use Rattle.meshing.proofs.PrismLaws.{cut_ring, kept_ring, ring_stuck, ring_triangles, part_adds}
-use Rattle.meshing.proofs.TriangulateLaws.{ring_stalled, ring_cut}
+use Rattle.std.proofs.Common.{◌-◌, ◌*◌, sym, length, take, length-take-le, arith}
+use Rattle.openrdson_core.specs.Mesh.{the_mesh}
+use Rattle.meshing.proofs.PrismLaws.{cut_ring, ring_stuck, ring_triangles, part_adds}
+use Rattle.meshing.proofs.TriangulateLaws.{kept_ring, ring_stalled, ring_cut}
 use Rattle.meshing.proofs.prism.mesh_cut.Goals as goal
 
-pub clip_ring-cut-requires : goal.clip_ring-cut-requires
-clip_ring-cut-requires c = ((kept_ring c.args.xs.now c.args.ys.now c.requires.ring.2 c.requires.ring.3 c.requires.ring.0), c.requires.ring.4, c.requires.ring.5)
+pub clip_ring-requires : goal.clip_ring-requires
+clip_ring-requires g c = let p = c.requires.ring in (kept_ring _ _ p.2 p.3 p.0, p.4, omega (arith, p.5))
 
 pub mesh_scanline-requires : goal.mesh_scanline-requires
-mesh_scanline-requires c = (c.requires.ring.0, c.requires.lists.0, c.requires.lists.1)
+mesh_scanline-requires g c = (c.requires.ring.0, c.requires.lists.0, c.requires.lists.1)
 
-pub slice_bounds-mesh_tris-end : goal.slice_bounds-mesh_tris-end
-slice_bounds-mesh_tris-end c = omega (arith, c.requires.ring.5, c.clip_ring-cut.auto.corners)
-
-pub slice_bounds-mesh_tris-end-in-Done : goal.slice_bounds-mesh_tris-end-in-Done
-slice_bounds-mesh_tris-end-in-Done c = sym (length-take-le ((length c.args.ring_x.now - 2) * 3) c.clip_ring-cut.new.corners (omega (arith, c.requires.ring.5, c.clip_ring-cut.auto.corners)))
+pub returns-in-Err : goal.returns-in-Err
+returns-in-Err g c = let p = c.requires.ring in
+    let w = c.mesh_scanline.new in
+    part_adds {m' = the_mesh w.nx w.ny w.nz w.kinds w.places w.regions} (ring_stuck _ _ p.2 p.3 _ _ _ p.1 (ring_stalled _ _ c.in-Err.ensures)) c.mesh_scanline.ensures
 
 pub mesh_tris-requires : goal.mesh_tris-requires
-mesh_tris-requires c = record { ring = ((cut_ring c.args.ring_x.now c.args.ring_y.now (take ((length c.args.ring_x.now - 2) * 3) c.clip_ring-cut.new.corners) (kept_ring c.args.xs.now c.args.ys.now c.requires.ring.2 c.requires.ring.3 c.requires.ring.0) (ring_cut c.args.ring_x.now c.args.ring_y.now (take ((length c.args.ring_x.now - 2) * 3) c.clip_ring-cut.new.corners) c.clip_ring-cut.result c.clip_ring-cut.ensures c.in-Done.is)).even, (cut_ring c.args.ring_x.now c.args.ring_y.now (take ((length c.args.ring_x.now - 2) * 3) c.clip_ring-cut.new.corners) (kept_ring c.args.xs.now c.args.ys.now c.requires.ring.2 c.requires.ring.3 c.requires.ring.0) (ring_cut c.args.ring_x.now c.args.ring_y.now (take ((length c.args.ring_x.now - 2) * 3) c.clip_ring-cut.new.corners) c.clip_ring-cut.result c.clip_ring-cut.ensures c.in-Done.is)).short, (cut_ring c.args.ring_x.now c.args.ring_y.now (take ((length c.args.ring_x.now - 2) * 3) c.clip_ring-cut.new.corners) (kept_ring c.args.xs.now c.args.ys.now c.requires.ring.2 c.requires.ring.3 c.requires.ring.0) (ring_cut c.args.ring_x.now c.args.ring_y.now (take ((length c.args.ring_x.now - 2) * 3) c.clip_ring-cut.new.corners) c.clip_ring-cut.result c.clip_ring-cut.ensures c.in-Done.is)).whole, (cut_ring c.args.ring_x.now c.args.ring_y.now (take ((length c.args.ring_x.now - 2) * 3) c.clip_ring-cut.new.corners) (kept_ring c.args.xs.now c.args.ys.now c.requires.ring.2 c.requires.ring.3 c.requires.ring.0) (ring_cut c.args.ring_x.now c.args.ring_y.now (take ((length c.args.ring_x.now - 2) * 3) c.clip_ring-cut.new.corners) c.clip_ring-cut.result c.clip_ring-cut.ensures c.in-Done.is)).below, (cut_ring c.args.ring_x.now c.args.ring_y.now (take ((length c.args.ring_x.now - 2) * 3) c.clip_ring-cut.new.corners) (kept_ring c.args.xs.now c.args.ys.now c.requires.ring.2 c.requires.ring.3 c.requires.ring.0) (ring_cut c.args.ring_x.now c.args.ring_y.now (take ((length c.args.ring_x.now - 2) * 3) c.clip_ring-cut.new.corners) c.clip_ring-cut.result c.clip_ring-cut.ensures c.in-Done.is)).few); lists = c.requires.lists }
+mesh_tris-requires g c = let a = c.args in
+    let l = take ((length a.ring_x.now - 2) * 3) c.clip_ring.new.corners in
+    let t = ring_cut a.ring_x.now a.ring_y.now l c.in-Ok.ensures in
+    let p = c.requires.ring in
+    let r = cut_ring a.ring_x.now a.ring_y.now l (kept_ring _ _ p.2 p.3 p.0) t in
+    record { ring = (r.even, r.short, r.whole, r.below, r.few); lists = c.requires.lists }
 
-pub returns-in-Stalled : goal.returns-in-Stalled
-returns-in-Stalled c = part_adds (ring_stuck c.args.xs.now c.args.ys.now c.requires.ring.2 c.requires.ring.3 c.args.counts.nodes c.args.z_bottom c.args.z_top c.requires.ring.1 (ring_stalled c.args.ring_x.now c.args.ring_y.now (take ((length c.args.ring_x.now - 2) * 3) c.clip_ring-cut.new.corners) c.clip_ring-cut.result c.clip_ring-cut.ensures c.in-Stalled.is)) c.mesh_scanline.ensures
-
-pub returns-in-Done : goal.returns-in-Done
-returns-in-Done c = part_adds (ring_triangles c.args.xs.now c.args.ys.now c.requires.ring.2 c.requires.ring.3 c.args.counts.nodes c.args.z_bottom c.args.z_top c.requires.ring.1 (ring_cut c.args.ring_x.now c.args.ring_y.now (take ((length c.args.ring_x.now - 2) * 3) c.clip_ring-cut.new.corners) c.clip_ring-cut.result c.clip_ring-cut.ensures c.in-Done.is).0) c.mesh_tris.ensures
+pub returns-in-Ok : goal.returns-in-Ok
+returns-in-Ok g c = let a = c.args in
+    let l = take ((length a.ring_x.now - 2) * 3) c.clip_ring.new.corners in
+    let t = ring_cut a.ring_x.now a.ring_y.now l c.in-Ok.ensures in
+    let p = c.requires.ring in
+    let w = c.mesh_tris.new in
+    part_adds {m' = the_mesh w.nx w.ny w.nz w.kinds w.places w.regions} (ring_triangles _ _ p.2 p.3 _ _ _ p.1 t.0) c.mesh_tris.ensures

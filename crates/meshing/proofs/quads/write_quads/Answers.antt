@@ -1,33 +1,50 @@
 -- `write_quads` meets its contract: each turn writes the quad of a pair of edges, or skips it. Assumes nothing.
-use Prim.Native.Nat.{◌+◌}
-use mathlib.Core.Path.{refl, sym, ◌∙◌}
-use native.Mathlib.Omega.{arith}
-use borrow.Author.Tests.{not-true, not-false}
-use lib.ListN.{length, drop}
-use Rattle.lists.proofs.Places.{below_at}
+use Rattle.std.proofs.Common.{◌<◌, ◌/◌, sym, refl, ◌∙◌, length, arith}
 use Rattle.meshing.specs.Levels.{the_band}
-use Rattle.meshing.specs.Quads.{quads_between}
-use Rattle.meshing.proofs.QuadLaws.{sofar_start, sofar_skip, sofar_room_one, sofar_one, sofar_end, pair_flat, pair_kept, pair_last}
+use Rattle.meshing.proofs.QuadLaws.{sofar_start, sofar_skip, sofar_room_one, sofar_one, sofar_end, pair_below, chunk_flat, chunk_kept, pair_last}
 use Rattle.meshing.proofs.quads.write_quads.Goals as goal
 use Rattle.meshing.proofs.quads.write_quads.Goals.{else-not-is_flat, then-not-is_flat}
 
-pub loop-i-init : goal.loop-i-init
-loop-i-init c = (omega arith, sofar_start _ _ _ refl)
+pub loop-left-init : goal.loop-left-init
+loop-left-init c = sofar_start _ _ _ refl
 
 pub quad_of-q-requires : goal.quad_of-q-requires
-quad_of-q-requires c = (c.requires.0, below_at (length c.args.xs.now) c.args.edges.now c.loop-i.i c.requires.1 (omega arith), below_at (length c.args.xs.now) c.args.edges.now (c.loop-i.i + 1) c.requires.1 (omega arith))
+quad_of-q-requires c =
+    let i : c.loop-left.left-index < length c.args.edges.now / 2 = omega arith in
+    let b = pair_below (length c.args.xs.now) c.args.edges.now c.as_chunks.ensures.front c.loop-left.left-index i c.requires.1 in
+    (c.requires.0, b.0, b.1)
 
 pub write_eight-requires : goal.write_eight-requires
-write_eight-requires c = omega (arith, (sofar_room_one c.loop-i.invariant.1 c.quad_of-q.result (quads_between c.args.xs.now c.args.ys.now (the_band c.args.low c.args.high) (drop (c.loop-i.i + 2) c.args.edges.now)) (pair_kept c.args.xs.now c.args.ys.now (the_band c.args.low c.args.high) c.args.edges.now c.loop-i.i (omega arith) c.quad_of-q.ensures (sym c.is_flat.ensures ∙ not-true _ c.if-not-is_flat.true-raw)) c.requires.2), c.loop-i.invariant.1.long_xs)
+write_eight-requires c =
+    let a = c.args in
+    let i : c.loop-left.left-index < length a.edges.now / 2 = omega arith in
+    let next = chunk_kept (length a.xs.now) a.edges.now c.as_chunks.ensures.front c.loop-left.left-index i a.xs.now a.ys.now (the_band a.low a.high) c.quad_of-q.ensures (sym c.is_flat.ensures ∙ c.if-not-is_flat.true) in
+    omega (arith, sofar_room_one c.loop-left.invariant c.quad_of-q.result _ next c.requires.2, c.loop-left.invariant.long_xs)
 
 pub write_eight-requires-then-not-is_flat : goal.write_eight-requires-then-not-is_flat
-write_eight-requires-then-not-is_flat c = omega (arith, (sofar_room_one c.loop-i.invariant.1 c.quad_of-q.result (quads_between c.args.xs.now c.args.ys.now (the_band c.args.low c.args.high) (drop (c.loop-i.i + 2) c.args.edges.now)) (pair_kept c.args.xs.now c.args.ys.now (the_band c.args.low c.args.high) c.args.edges.now c.loop-i.i (omega arith) c.quad_of-q.ensures (sym c.is_flat.ensures ∙ not-true _ c.if-not-is_flat.true-raw)) c.requires.2), c.loop-i.invariant.1.long_ys, c.requires.3)
+write_eight-requires-then-not-is_flat c =
+    let a = c.args in
+    let i : c.loop-left.left-index < length a.edges.now / 2 = omega arith in
+    let next = chunk_kept (length a.xs.now) a.edges.now c.as_chunks.ensures.front c.loop-left.left-index i a.xs.now a.ys.now (the_band a.low a.high) c.quad_of-q.ensures (sym c.is_flat.ensures ∙ c.if-not-is_flat.true) in
+    omega (arith, sofar_room_one c.loop-left.invariant c.quad_of-q.result _ next c.requires.2, c.loop-left.invariant.long_ys, c.requires.3)
 
 pub overflow_add-at : goal.overflow_add-at
-overflow_add-at c = omega (arith, (sofar_room_one c.loop-i.invariant.1 c.quad_of-q.result (quads_between c.args.xs.now c.args.ys.now (the_band c.args.low c.args.high) (drop (c.loop-i.i + 2) c.args.edges.now)) (pair_kept c.args.xs.now c.args.ys.now (the_band c.args.low c.args.high) c.args.edges.now c.loop-i.i (omega arith) c.quad_of-q.ensures (sym c.is_flat.ensures ∙ not-true _ c.if-not-is_flat.true-raw)) c.requires.2), c.well_formed.1.1.1.1.1.0.1)
+overflow_add-at c =
+    let a = c.args in
+    let i : c.loop-left.left-index < length a.edges.now / 2 = omega arith in
+    let next = chunk_kept (length a.xs.now) a.edges.now c.as_chunks.ensures.front c.loop-left.left-index i a.xs.now a.ys.now (the_band a.low a.high) c.quad_of-q.ensures (sym c.is_flat.ensures ∙ c.if-not-is_flat.true) in
+    omega (arith, sofar_room_one c.loop-left.invariant c.quad_of-q.result _ next c.requires.2, c.loop-left.invariant.long_xs)
 
-pub loop-i-preserved : goal.loop-i-preserved
-loop-i-preserved c = elim c.if-not-is_flat.branch [ then-not-is_flat w ↦ (omega arith, sofar_one c.loop-i.invariant.1 (pair_kept c.args.xs.now c.args.ys.now (the_band c.args.low c.args.high) c.args.edges.now c.loop-i.i (omega arith) c.quad_of-q.ensures (sym c.is_flat.ensures ∙ not-true _ w.if-not-is_flat.true-raw)) c.requires.2 c.requires.3 (w.nx-is ∙ w.write_eight.ensures) (w.ny-is ∙ w.write_eight-then-not-is_flat.ensures) w.at-is) | else-not-is_flat w ↦ (omega arith, rw (w.nx-is, w.ny-is, w.at-is) (sofar_skip c.loop-i.invariant.1 (pair_flat c.args.xs.now c.args.ys.now (the_band c.args.low c.args.high) c.args.edges.now c.loop-i.i (omega arith) c.quad_of-q.ensures (sym c.is_flat.ensures ∙ not-false _ w.if-not-is_flat.false-raw)))) ]
+pub loop-left-preserved : goal.loop-left-preserved
+loop-left-preserved c =
+    let a = c.args in
+    let v = c.loop-left in
+    let i : v.left-index < length a.edges.now / 2 = omega arith in
+    let b = the_band a.low a.high in
+    elim c.if-not-is_flat.branch [
+      | then-not-is_flat w ↦ sofar_one v.invariant (chunk_kept (length a.xs.now) a.edges.now c.as_chunks.ensures.front v.left-index i a.xs.now a.ys.now b c.quad_of-q.ensures (sym c.is_flat.ensures ∙ w.if-not-is_flat.true)) c.requires.2 c.requires.3 (w.nx-is ∙ w.write_eight.ensures) (w.ny-is ∙ w.write_eight-then-not-is_flat.ensures) w.at-is
+      | else-not-is_flat w ↦ rw (w.nx-is, w.ny-is, w.at-is) (sofar_skip v.invariant (chunk_flat (length a.xs.now) a.edges.now c.as_chunks.ensures.front v.left-index i a.xs.now a.ys.now b c.quad_of-q.ensures (sym c.is_flat.ensures ∙ w.if-not-is_flat.false)))
+    ]
 
 pub returns : goal.returns
-returns c = sofar_end c.loop-i.invariant.1 (pair_last c.args.xs.now c.args.ys.now (the_band c.args.low c.args.high) c.args.edges.now c.loop-i.i (omega arith))
+returns c = sofar_end c.loop-left.invariant (pair_last c.args.xs.now c.args.ys.now (the_band c.args.low c.args.high) c.args.edges.now _ (omega arith))

@@ -1,14 +1,9 @@
-use Prim.Native.Nat.{◌≤◌, ◌-◌}
 use mathlib.Core.Bool.{true}
 use mathlib.Core.Path.{◌≡◌}
-use lib.ListN.{length}
 use Rattle.lists.specs.Lists.{all_below}
 use Rattle.meshing.specs.Rectilinear.{slant_tolerance}
 use Rattle.meshing.proofs.RectLaws.{is_straight}
 use Rattle.meshing.proofs.rectilinear.ring_is_rectilinear.Given as goal
 
 abbrev pub invariant-loop-i : goal.invariant-loop-i
-invariant-loop-i l = (l.i ≤ length l.xs) × (l.eps ≡ slant_tolerance l.xs l.ys) × (all_below l.i (is_straight l.xs l.ys) ≡ true)
-
-abbrev pub decreases-loop-i : goal.decreases-loop-i
-decreases-loop-i l = length l.xs - l.i
+invariant-loop-i l = (l.eps ≡ slant_tolerance l.xs l.ys) × (all_below l.i (is_straight l.xs l.ys) ≡ true)

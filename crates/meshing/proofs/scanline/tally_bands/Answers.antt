@@ -1,43 +1,49 @@
 -- `tally_bands` meets its contract: each turn tallies the quads of a band, whose edges are found from those of the band before. Assumes nothing.
-use mathlib.Core.Path.{refl, sym, subst, ◌∙◌}
-use native.Mathlib.Omega.{arith}
-use lib.Seq.{length-take-le}
+use Rattle.std.proofs.Common.{◌≡◌, ◌-◌, ◌+◌, ◌<◌, ◌≤◌, sym, length, length-take-le, arith}
 use Rattle.openrdson_core.proofs.Rings.{fine_ring}
-use Rattle.meshing.specs.Crossings.{CrossedAs}
-use Rattle.meshing.specs.declared.crossings.Crossed.{Crossed}
-use Rattle.meshing.proofs.ScanlineLaws.{hand_start, hand_next, hand_below, tallying_start, tallying_turn, tallying_out, tallying_end}
+use Rattle.meshing.specs.Levels.{middle}
+use Rattle.meshing.proofs.ScanlineLaws.{band_at, hand_start, hand_next, hand_below, tallying_start, tallying_turn, tallying_out, tallying_end}
 use Rattle.meshing.proofs.scanline.tally_bands.Goals as goal
 
 pub loop-k-init : goal.loop-k-init
-loop-k-init c = (omega arith, refl, refl, hand_start _ _ _ c.requires.checked c.minus_infinity-below.ensures, tallying_start _ _ _)
+loop-k-init c = (hand_start _ _ _ c.requires.checked c.minus_infinity-below.ensures, tallying_start _ _ _)
 
-pub cross-crossed-requires : goal.cross-crossed-requires
-cross-crossed-requires c = (sym (fine_ring c.args.xs.now c.args.ys.now c.requires.checked).even, omega (arith, c.requires.edges_room, c.loop-k.invariant.1), omega (arith, c.requires.at_room, c.loop-k.invariant.2), omega (arith, c.requires.edges_room, c.loop-k.invariant.1, c.loop-k.invariant.3.few), c.loop-k.invariant.3.are)
+pub cross-requires : goal.cross-requires
+cross-requires c = let v = c.loop-k in
+    (sym (fine_ring _ _ c.requires.checked).even, omega (arith, c.requires.edges_room), omega (arith, c.requires.at_room), omega (arith, c.requires.edges_room, v.invariant.0.few), v.invariant.0.are)
 
-pub returns-in-Outside : goal.returns-in-Outside
-returns-in-Outside c = tallying_out c.args.xs.now c.args.ys.now c.args.levels.now c.loop-k.invariant.4 c.loop-k-test.true c.middle-y.ensures c.cross-crossed.new.edges (subst (λ (r : Crossed). CrossedAs c.args.xs.now c.args.ys.now c.middle-y.result r c.cross-crossed.new.edges) c.in-Outside.is c.cross-crossed.ensures)
-
-pub slice_bounds-tally_quads-end : goal.slice_bounds-tally_quads-end
-slice_bounds-tally_quads-end c = omega (arith, (subst (λ (r : Crossed). CrossedAs c.args.xs.now c.args.ys.now c.middle-y.result r c.cross-crossed.new.edges) c.in-Edges.is c.cross-crossed.ensures).2, c.cross-crossed.auto.edges, c.requires.edges_room, c.loop-k.invariant.1)
-
-pub slice_bounds-tally_quads-end-in-Edges : goal.slice_bounds-tally_quads-end-in-Edges
-slice_bounds-tally_quads-end-in-Edges c = sym (length-take-le c.in-Edges.m c.cross-crossed.new.edges (omega (arith, (subst (λ (r : Crossed). CrossedAs c.args.xs.now c.args.ys.now c.middle-y.result r c.cross-crossed.new.edges) c.in-Edges.is c.cross-crossed.ensures).2, c.cross-crossed.auto.edges, c.requires.edges_room, c.loop-k.invariant.1)))
+pub returns-in_err-count : goal.returns-in_err-count
+returns-in_err-count c =
+    let a = c.args in
+    let v = c.loop-k in
+    let j : v.k - 1 + 1 ≡ v.k = omega arith in
+    let mid : c.middle-y.result ≡ middle (band_at a.levels.now (v.k - 1)) = rw j c.middle-y.ensures in
+    let inside : v.k - 1 + 1 < length a.levels.now = omega (arith, c.loop-k-test.true) in
+    rw c.from_residual.ensures (tallying_out _ _ _ v.invariant.1 inside mid c.cross.new.edges c.in_err-count.ensures)
 
 pub tally_quads-t-requires : goal.tally_quads-t-requires
-tally_quads-t-requires c = (
-  sym (fine_ring c.args.xs.now c.args.ys.now c.requires.checked).even,
-  hand_below c.args.xs.now c.args.ys.now c.middle-y.result c.in-Edges.m c.cross-crossed.new.edges (subst (λ (r : Crossed). CrossedAs c.args.xs.now c.args.ys.now c.middle-y.result r c.cross-crossed.new.edges) c.in-Edges.is c.cross-crossed.ensures) (sym (fine_ring c.args.xs.now c.args.ys.now c.requires.checked).even),
-  omega (arith, length-take-le c.in-Edges.m c.cross-crossed.new.edges (omega (arith, (subst (λ (r : Crossed). CrossedAs c.args.xs.now c.args.ys.now c.middle-y.result r c.cross-crossed.new.edges) c.in-Edges.is c.cross-crossed.ensures).2, c.cross-crossed.auto.edges, c.requires.edges_room, c.loop-k.invariant.1)), (subst (λ (r : Crossed). CrossedAs c.args.xs.now c.args.ys.now c.middle-y.result r c.cross-crossed.new.edges) c.in-Edges.is c.cross-crossed.ensures).2, (fine_ring c.args.xs.now c.args.ys.now c.requires.checked).even, (fine_ring c.args.xs.now c.args.ys.now c.requires.checked).short, c.loop-k.invariant.4.few, c.loop-k-test.true, c.requires.few),
-)
+tally_quads-t-requires c = let v = c.loop-k in
+    let s = fine_ring _ _ c.requires.checked in
+    let m = c.in_ok-count in
+    let few : m.count ≤ length c.args.ys.now = m.ensures.2 in
+    let long = length-take-le m.count c.cross.new.edges (omega (arith, few, c.requires.edges_room)) in
+    (sym s.even, hand_below _ _ _ m.count c.cross.new.edges m.ensures (sym s.even), omega (arith, long, few, s.even, s.short, v.invariant.1.few, c.loop-k-test.true, c.requires.few))
 
 pub loop-k-preserved : goal.loop-k-preserved
-loop-k-preserved c = (
-  omega (arith, c.loop-k-test.true),
-  c.cross-crossed.auto.edges ∙ c.loop-k.invariant.1,
-  c.cross-crossed.auto.at ∙ c.loop-k.invariant.2,
-  hand_next c.args.xs.now c.args.ys.now c.middle-y.result c.in-Edges.m c.cross-crossed.new.edges (subst (λ (r : Crossed). CrossedAs c.args.xs.now c.args.ys.now c.middle-y.result r c.cross-crossed.new.edges) c.in-Edges.is c.cross-crossed.ensures),
-  tallying_turn c.args.xs.now c.args.ys.now c.args.levels.now c.loop-k.invariant.4 c.loop-k-test.true c.middle-y.ensures c.cross-crossed.new.edges (subst (λ (r : Crossed). CrossedAs c.args.xs.now c.args.ys.now c.middle-y.result r c.cross-crossed.new.edges) c.in-Edges.is c.cross-crossed.ensures) (omega (arith, (fine_ring c.args.xs.now c.args.ys.now c.requires.checked).even, (fine_ring c.args.xs.now c.args.ys.now c.requires.checked).short)) c.tally_quads-t.ensures.0 (omega (arith, c.tally_quads-t.ensures.1, length-take-le c.in-Edges.m c.cross-crossed.new.edges (omega (arith, (subst (λ (r : Crossed). CrossedAs c.args.xs.now c.args.ys.now c.middle-y.result r c.cross-crossed.new.edges) c.in-Edges.is c.cross-crossed.ensures).2, c.cross-crossed.auto.edges, c.requires.edges_room, c.loop-k.invariant.1)))),
-)
+loop-k-preserved c =
+    let a = c.args in
+    let v = c.loop-k in
+    let j : v.k - 1 + 1 ≡ v.k = omega arith in
+    let mid : c.middle-y.result ≡ middle (band_at a.levels.now (v.k - 1)) = rw j c.middle-y.ensures in
+    let inside : v.k - 1 + 1 < length a.levels.now = omega (arith, c.loop-k-test.true) in
+    let s = fine_ring _ _ c.requires.checked in
+    let m = c.in_ok-count in
+    let few : m.count ≤ length a.ys.now = m.ensures.2 in
+    let long = length-take-le m.count c.cross.new.edges (omega (arith, few, c.requires.edges_room)) in
+    let next : v.k + 1 - 1 ≡ v.k - 1 + 1 = omega arith in (
+      hand_next _ _ _ m.count c.cross.new.edges m.ensures,
+      rw next (tallying_turn a.xs.now a.ys.now a.levels.now v.invariant.1 inside mid c.cross.new.edges {m = m.count} m.ensures (omega (arith, s.even, s.short)) (rw j c.tally_quads-t.ensures.0) (omega (arith, c.tally_quads-t.ensures.1, long))),
+    )
 
 pub returns : goal.returns
-returns c = tallying_end c.args.xs.now c.args.ys.now c.args.levels.now c.loop-k.invariant.4 (omega arith)
+returns c = tallying_end _ _ _ c.loop-k.invariant.1 (omega (arith, c.loop-k-test.false))

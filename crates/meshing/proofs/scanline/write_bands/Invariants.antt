@@ -1,11 +1,6 @@
-use Prim.Native.Nat.{◌≤◌, ◌-◌}
-use mathlib.Core.Path.{◌≡◌}
-use lib.ListN.{length}
+use Rattle.std.proofs.Common.{◌-◌}
 use Rattle.meshing.proofs.ScanlineLaws.{InHand, Writing}
 use Rattle.meshing.proofs.scanline.write_bands.Given as goal
 
 abbrev pub invariant-loop-k : goal.invariant-loop-k
-invariant-loop-k l = (l.k ≤ length l.levels) × (length l.edges ≡ length l.initial.edges) × (length l.at ≡ length l.initial.at) × InHand l.ys l.below l.count l.edges × Writing l.xs l.ys l.levels l.k l.p l.place l.initial.nx l.initial.ny l.nx l.ny
-
-abbrev pub decreases-loop-k : goal.decreases-loop-k
-decreases-loop-k l = length l.levels - l.k
+invariant-loop-k l = InHand l.ys l.below l.count l.edges × Writing l.xs l.ys l.levels (l.k - 1) l.p l.place l.initial.nx l.initial.ny l.nx l.ny

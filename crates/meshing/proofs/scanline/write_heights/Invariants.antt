@@ -1,11 +1,6 @@
-use Prim.Native.Nat.{◌+◌, ◌-◌, ◌*◌, ◌≤◌}
-use mathlib.Core.Path.{◌≡◌}
 use Rattle.lists.proofs.Fills.{Runs}
 use Rattle.meshing.specs.Scanline.{quad_zs}
 use Rattle.meshing.proofs.scanline.write_heights.Given as goal
 
 abbrev pub invariant-loop-i : goal.invariant-loop-i
-invariant-loop-i l = Runs l.initial.nz l.p (λ _. quad_zs l.z_bottom l.z_top) 8 l.i l.nz × (l.i ≤ l.n) × (l.at ≡ l.p + l.i * 8)
-
-abbrev pub decreases-loop-i : goal.decreases-loop-i
-decreases-loop-i l = l.n - l.i
+invariant-loop-i l = Runs l.initial.nz l.p (λ _. quad_zs l.z_bottom l.z_top) 8 l.i l.nz

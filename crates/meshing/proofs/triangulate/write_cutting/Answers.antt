@@ -1,21 +1,26 @@
 -- `write_cutting` meets its contract: a law a refusal, then the lists written. Assumes nothing.
-use native.Mathlib.Omega.{arith}
-use mathlib.Core.Path.{◌≡◌, refl, sym, ap, ◌∙◌}
-use lib.ListN.{length}
-use Rattle.lists.specs.Lists.{put}
-use Rattle.meshing.specs.Triangles.{corners, triples}
-use Rattle.meshing.specs.Triangulate.{fitted}
+use Rattle.std.proofs.Common.{refl, sym, ap, ◌∙◌, length, arith}
+use Rattle.std.specs.Float.{nan}
+use Rattle.lists.specs.Lists.{put, elems}
+use Rattle.lists.proofs.Fills.{elems_length}
+use Rattle.lists.proofs.Places.{gather_all}
+use Rattle.meshing.specs.Triangles.{triples}
 use Rattle.meshing.proofs.TriangulateLaws.{no_ring_room, no_corner_room, has_room, refused_leaves, given_leaves, corners_length}
 use Rattle.meshing.proofs.triangulate.write_cutting.Goals as goal
 
-pub returns-then-places-out_x : goal.returns-then-places-out_x
-returns-then-places-out_x c = refused_leaves (fitted (length c.args.out_x.now) (length c.args.out_corners.now) c.args.places.now (triples c.args.corners.now)) (no_ring_room (length c.args.out_x.now) (length c.args.out_corners.now) c.args.places.now (triples c.args.corners.now) (omega arith)) refl
+pub returns-then-ring_x-out_x : goal.returns-then-ring_x-out_x
+returns-then-ring_x-out_x c = refused_leaves _ (no_ring_room _ _ _ _ (omega (arith, elems_length (λ i. i) (length c.args.ring_x.now)))) refl
 
 pub returns-then-corners-out_corners : goal.returns-then-corners-out_corners
-returns-then-corners-out_corners c = let e : length (corners (triples c.args.corners.now)) ≡ length c.args.corners.now = ap length c.requires.3 in refused_leaves (fitted (length c.args.out_x.now) (length c.args.out_corners.now) c.args.places.now (triples c.args.corners.now)) (no_corner_room (length c.args.out_x.now) (length c.args.out_corners.now) c.args.places.now (triples c.args.corners.now) (omega arith) (omega (arith, e))) refl
-
-pub gather_into-requires-2 : goal.gather_into-requires-2
-gather_into-requires-2 c = (rw (← c.requires.1) c.requires.0, omega (arith, c.requires.2))
+returns-then-corners-out_corners c = refused_leaves _ (no_corner_room _ _ _ _ (omega (arith, elems_length (λ i. i) (length c.args.ring_x.now))) (omega (arith, ap length c.requires.2))) refl
 
 pub returns : goal.returns
-returns c = let e : length (corners (triples c.args.corners.now)) ≡ length c.args.corners.now = ap length c.requires.3 in given_leaves (fitted (length c.args.out_x.now) (length c.args.out_corners.now) c.args.places.now (triples c.args.corners.now)) c.args.places.now (triples c.args.corners.now) (has_room (length c.args.out_x.now) (length c.args.out_corners.now) c.args.places.now (triples c.args.corners.now) (omega arith) (omega (arith, e))) refl (omega (arith, e, corners_length (triples c.args.corners.now), c.requires.4)) c.gather_into.ensures c.gather_into-2.ensures (c.copy_words.ensures ∙ ap (put c.args.out_corners.now 0) (sym c.requires.3))
+returns c = let a = c.args in
+    let n = length a.ring_x.now in
+    let e = ap length c.requires.2 in
+    let t = triples a.corners.now in
+    let long = elems_length (λ i. i) n in
+    given_leaves _ (elems n (λ i. i)) t (has_room _ _ _ _ (omega (arith, long)) (omega (arith, e))) (sym long) (omega (arith, e, corners_length t))
+    (c.copy.ensures ∙ ap (put a.out_x.now 0) (sym (gather_all nan a.ring_x.now n refl)))
+    (c.copy-2.ensures ∙ ap (put a.out_y.now 0) (sym (gather_all nan a.ring_y.now n c.requires.0)))
+    (c.copy-3.ensures ∙ ap (put a.out_corners.now 0) (sym c.requires.2))

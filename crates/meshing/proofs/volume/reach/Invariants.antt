@@ -1,4 +1,3 @@
-use Prim.Native.Nat.{◌≤◌, ◌-◌}
 use mathlib.Core.Path.{◌≡◌}
 use mathlib.Core.Bool.{true, false}
 use lib.Ieee.{inf}
@@ -7,7 +6,4 @@ use Rattle.meshing.proofs.VolumeLaws.{low, high}
 use Rattle.meshing.proofs.volume.reach.Given as goal
 
 abbrev pub invariant-loop-k : goal.invariant-loop-k
-invariant-loop-k l = (l.k ≤ l.n) × (l.least ≡ fold_below l.k (low l.l l.places) (inf false)) × (l.most ≡ fold_below l.k (high l.l l.places) (inf true))
-
-abbrev pub decreases-loop-k : goal.decreases-loop-k
-decreases-loop-k l = l.n - l.k
+invariant-loop-k l = (l.least ≡ fold_below l.k (low l.l l.places) (inf false)) × (l.most ≡ fold_below l.k (high l.l l.places) (inf true))

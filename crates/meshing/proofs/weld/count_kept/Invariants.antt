@@ -1,11 +1,7 @@
-use Prim.Native.Nat.{◌≤◌, ◌-◌}
 use mathlib.Core.Path.{◌≡◌}
 use lib.ListN.{length}
 use Rattle.meshing.proofs.WeldLaws.{kept_of}
 use Rattle.meshing.proofs.weld.count_kept.Given as goal
 
 abbrev pub invariant-loop-i : goal.invariant-loop-i
-invariant-loop-i l = (l.i ≤ length l.xs) × (l.count ≡ length (kept_of l.tolerance l.xs l.ys l.zs l.i))
-
-abbrev pub decreases-loop-i : goal.decreases-loop-i
-decreases-loop-i l = length l.xs - l.i
+invariant-loop-i l = l.count ≡ length (kept_of l.tolerance l.xs l.ys l.zs l.i)

@@ -1,25 +1,30 @@
 -- `has_key` meets its contract: numbers of an i64 are told apart by their bits. Assumes nothing.
+use Rattle.std.proofs.Common.{sym, ◌∙◌, rules}
+use borrow.Author.Tests.{eqb-true, eqb-false}
 use Rattle.meshing.proofs.WeldLaws.{other_x, other_y, by_z}
-use borrow.Author.Rules.{rules}
 use Rattle.meshing.proofs.weld.has_key.Goals as goal
-
-pub returns-then-nearest_capped-key : goal.returns-then-nearest_capped-key
-returns-then-nearest_capped-key c = let a = c.args in
-    let k = c.struct_told-1 in
-    let x = c.nearest_capped in
-    other_x a.tolerance a.xs.now a.ys.now a.zs.now a.i a.key x.result x.ensures (search rules) (record { sfits = k.given.0.1 }) c.if-nearest_capped-key.true
+use Rattle.meshing.proofs.weld.has_key.Goals.{then-nearest_capped-key, else-nearest_capped-key}
 
 pub returns-then-nearest_capped-key-2 : goal.returns-then-nearest_capped-key-2
 returns-then-nearest_capped-key-2 c = let a = c.args in
     let k = c.struct_told-1 in
     let x = c.nearest_capped in
-    let y = c.nearest_capped-2 in
-    other_y a.tolerance a.xs.now a.ys.now a.zs.now a.i a.key x.result x.ensures (search rules) (record { sfits = k.given.0.1 }) c.if-nearest_capped-key.false y.result y.ensures (search rules) (record { sfits = k.given.1.0.1 }) c.if-nearest_capped-key-2.true
+    let z = c.nearest_capped-then-nearest_capped-key-2 in
+    elim c.if-nearest_capped-key.branch [
+      | then-nearest_capped-key w ↦
+          let y = w.nearest_capped-then-nearest_capped-key in
+          by_z a.tolerance a.xs.now a.ys.now a.zs.now a.i a.key x.result x.ensures (search rules) (record { sfits = k.given.0.1 }) w.if-nearest_capped-key.true y.result y.ensures (search rules) (record { sfits = k.given.1.0.1 }) (eqb-true _ _ (sym w.value-is ∙ c.if-nearest_capped-key-2.true)) z.result z.ensures (search rules) (record { sfits = k.given.1.1.0.1 })
+      | else-nearest_capped-key w ↦ absurd (w.if-nearest_capped-key.false (eqb-true _ _ (sym w.value-is ∙ c.if-nearest_capped-key-2.true)))
+    ]
 
-pub returns : goal.returns
-returns c = let a = c.args in
+pub returns-else-nearest_capped-key-2 : goal.returns-else-nearest_capped-key-2
+returns-else-nearest_capped-key-2 c = let a = c.args in
     let k = c.struct_told-1 in
     let x = c.nearest_capped in
-    let y = c.nearest_capped-2 in
-    let z = c.nearest_capped-3 in
-    by_z a.tolerance a.xs.now a.ys.now a.zs.now a.i a.key x.result x.ensures (search rules) (record { sfits = k.given.0.1 }) c.if-nearest_capped-key.false y.result y.ensures (search rules) (record { sfits = k.given.1.0.1 }) c.if-nearest_capped-key-2.false z.result z.ensures (search rules) (record { sfits = k.given.1.1.0.1 })
+    c.if-nearest_capped-key-2.false
+    ∙ elim c.if-nearest_capped-key.branch [
+      | then-nearest_capped-key w ↦
+          let y = w.nearest_capped-then-nearest_capped-key in
+          other_y a.tolerance a.xs.now a.ys.now a.zs.now a.i a.key x.result x.ensures (search rules) (record { sfits = k.given.0.1 }) w.if-nearest_capped-key.true y.result y.ensures (search rules) (record { sfits = k.given.1.0.1 }) (eqb-false _ _ (sym w.value-is ∙ c.if-nearest_capped-key-2.false))
+      | else-nearest_capped-key w ↦ other_x a.tolerance a.xs.now a.ys.now a.zs.now a.i a.key x.result x.ensures (search rules) (record { sfits = k.given.0.1 }) w.if-nearest_capped-key.false
+    ]

@@ -61,11 +61,11 @@ write_places-requires c = let p = c.requires in
     let ez = gather_front nan a.zs.now a.out_z.now ks e.3 e.0 in
     (p.0, p.1, p.2, record { x = ex; y = ey; z = ez }, omega (arith, c.if-kinds-out_kinds.false, p.4, p.8))
 
-pub copy_words-requires : goal.copy_words-requires
-copy_words-requires c = let p = c.requires in
+pub copy-requires-2 : goal.copy-requires-2
+copy-requires-2 c = let p = c.requires in
     omega (arith, c.if-kinds-out_kinds.false, p.3, p.7)
 
 pub returns : goal.returns
 returns c = let a = c.args in
     let w = c.write_kept-nodes in
-    weld_done a.tolerance a.xs.now a.ys.now a.zs.now a.kinds.now a.places.now a.regions.now (the_mesh a.out_x.now a.out_y.now a.out_z.now a.out_kinds.now a.out_places.now a.out_regions.now) w.result w.ensures.0 _ _ _ _ _ _ (omega (arith, c.if-count_kept-out_x.false, c.count_kept.ensures.0, w.ensures.0)) c.if-kinds-out_kinds.false w.ensures.1 w.ensures.2 w.ensures.3 c.copy_bytes.ensures c.write_places.ensures c.copy_words.ensures
+    weld_done a.tolerance a.xs.now a.ys.now a.zs.now a.kinds.now a.places.now a.regions.now (the_mesh a.out_x.now a.out_y.now a.out_z.now a.out_kinds.now a.out_places.now a.out_regions.now) w.result w.ensures.0 _ _ _ _ _ _ (omega (arith, c.if-count_kept-out_x.false, c.count_kept.ensures.0, w.ensures.0)) c.if-kinds-out_kinds.false w.ensures.1 w.ensures.2 w.ensures.3 c.copy.ensures c.write_places.ensures c.copy-2.ensures

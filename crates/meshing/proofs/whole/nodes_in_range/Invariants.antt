@@ -1,12 +1,7 @@
-use Prim.Native.Nat.{◌≤◌, ◌-◌}
 use mathlib.Core.Path.{◌≡◌}
-use lib.ListN.{length}
 use Rattle.lists.specs.Lists.{all_below}
 use Rattle.meshing.proofs.WholeLaws.{node_in}
 use Rattle.meshing.proofs.whole.nodes_in_range.Given as goal
 
 abbrev pub invariant-loop-i : goal.invariant-loop-i
-invariant-loop-i l = (l.i ≤ length l.xs) × (l.fine ≡ all_below l.i (node_in l.xs l.ys l.zs))
-
-abbrev pub decreases-loop-i : goal.decreases-loop-i
-decreases-loop-i l = length l.xs - l.i
+invariant-loop-i l = l.fine ≡ all_below l.i (node_in l.xs l.ys l.zs)

@@ -1,11 +1,7 @@
-use Prim.Native.Nat.{◌-◌, ◌≤◌}
-use mathlib.Core.Path.{◌≡◌}
+use Rattle.std.proofs.Common.{◌≡◌}
 use Rattle.lists.specs.Lists.{all_below}
 use Rattle.openrdson_core.specs.Points.{point_at, point_in}
 use Rattle.openrdson_core.proofs.area.range_to.Given as goal
 
 abbrev pub invariant-loop-i : goal.invariant-loop-i
-invariant-loop-i l = (l.i ≤ l.to) × (l.fine ≡ all_below l.i (λ k. point_in (point_at l.xs l.ys k)))
-
-abbrev pub decreases-loop-i : goal.decreases-loop-i
-decreases-loop-i l = l.to - l.i
+invariant-loop-i l = l.fine ≡ all_below l.i (λ k. point_in (point_at l.ring.xs.now l.ring.ys.now k))

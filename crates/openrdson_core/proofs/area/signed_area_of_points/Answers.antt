@@ -1,10 +1,7 @@
--- `signed_area_of_points` meets its contract: by the sum over all edges, and the points' range beside it. Assumes nothing.
-use Prim.Native.Nat.{◌-◌}
-use native.Mathlib.Omega.{arith}
-use mathlib.Core.Path.{◌≡◌, sym, ap, ◌∙◌}
-use lib.ListN.{length}
-use lib.Ieee.{Float}
-use borrow.Author.Tests.{not-true, not-false, lt-ltb, le-ltb}
+-- The sum over all edges, and the points' range beside it.
+use Rattle.std.proofs.Common.{◌≡◌, ◌-◌, ◌∙◌, sym, ap, arith, length}
+use Rattle.std.specs.Prelude.{Float}
+use borrow.Author.Tests.{lt-ltb, le-ltb}
 use Rattle.lists.specs.Lists.{all_below}
 use Rattle.binary64.specs.Numbers.{◌⊕◌}
 use Rattle.openrdson_core.specs.Area.{signed_area, shoelace}
@@ -16,19 +13,16 @@ pub returns-then-n-eq0 : goal.returns-then-n-eq0
 unfolding signed_area all_below
 returns-then-n-eq0 c = rw c.if-n-eq0.true
 
-pub returns-then-not-range_to : goal.returns-then-not-range_to
-returns-then-not-range_to c = rw (sym c.range_to.ensures ∙ not-true _ c.if-not-range_to.true-raw)
-
 -- the whole sum
-closed : (c : Else-n-lt3) → c.add_to-most.result ⊕ c.cross_of.result ≡ shoelace c.args.xs.now c.args.ys.now (length c.args.xs.now)
+closed : (c : Else-n-lt3) → c.add_to-most.result ⊕ c.cross_of.result ≡ shoelace c.args.ring.xs.now c.args.ring.ys.now (length c.args.ring.xs.now)
 closed c =
     ap (λ (z : Float). c.add_to-most.result ⊕ z) c.cross_of.ensures
-    ∙ sum_closed c.args.xs.now c.args.ys.now (length c.args.xs.now - 1) c.add_to-most.ensures c.point_at-last.result c.point_at-last.ensures c.new.result (omega (arith, c.sum_of_large-first.ensures.0)) c.new.ensures
+    ∙ sum_closed c.args.ring.xs.now c.args.ring.ys.now (length c.args.ring.xs.now - 1) c.add_to-most.ensures c.point-last.result c.point-last.ensures c.point.result (omega (arith, c.sum_of_large-first.ensures.inside)) c.point.ensures
 
 pub returns-then-n-lt3 : goal.returns-then-n-lt3
 unfolding signed_area
-returns-then-n-lt3 c = rw (sym c.range_to.ensures ∙ not-false _ c.if-not-range_to.false-raw, lt-ltb (length c.args.xs.now) 3 (omega arith))
+returns-then-n-lt3 c = rw (sym c.range_to.ensures ∙ c.if-not-range_to.false, lt-ltb (length c.args.ring.xs.now) 3 c.if-n-lt3.true)
 
 pub returns : goal.returns
 unfolding signed_area
-returns c = rw (sym c.range_to.ensures ∙ not-false _ c.if-not-range_to.false-raw, le-ltb (length c.args.xs.now) 3 (omega arith), closed c)
+returns c = rw (sym c.range_to.ensures ∙ c.if-not-range_to.false, le-ltb (length c.args.ring.xs.now) 3 c.if-n-lt3.false, closed c)

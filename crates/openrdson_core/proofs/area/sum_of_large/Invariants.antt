@@ -1,11 +1,6 @@
-use Prim.Native.Nat.{◌-◌, ◌<◌}
-use mathlib.Core.Path.{◌≡◌}
-use lib.ListN.{length}
+use Rattle.std.proofs.Common.{◌+◌, ◌*◌}
 use Rattle.openrdson_core.specs.Sums.{Summed}
 use Rattle.openrdson_core.proofs.area.sum_of_large.Given as goal
 
-abbrev pub invariant-loop-i : goal.invariant-loop-i
-invariant-loop-i l = (l.i < l.n) × (l.n ≡ length l.xs) × Summed l.xs l.ys l.i l.sum l.fine
-
-abbrev pub decreases-loop-i : goal.decreases-loop-i
-decreases-loop-i l = l.n - l.i
+abbrev pub invariant-loop-turn : goal.invariant-loop-turn
+invariant-loop-turn l = Summed l.ring.xs.now l.ring.ys.now (l.from.count + 8 * l.turn) l.sum l.fine

@@ -1,12 +1,7 @@
-use Prim.Native.Nat.{◌+◌, ◌*◌, ◌-◌, ◌≤◌}
-use mathlib.Core.Path.{◌≡◌}
-use mathlib.Core.Bool.{true, not}
+use Rattle.std.proofs.Common.{◌≡◌, ◌+◌, ◌*◌, true, not}
 use Rattle.lists.specs.Lists.{part, all_below}
 use Rattle.openrdson_core.specs.Bytes.{same}
 use Rattle.openrdson_core.proofs.blocks.are_distinct.Given as goal
 
 abbrev pub invariant-loop-i : goal.invariant-loop-i
-invariant-loop-i l = (l.i ≤ l.n) × (all_below l.i (λ k. all_below k (λ j. not (same (part (2 + j * l.w) l.w l.s) (part (2 + k * l.w) l.w l.s)))) ≡ true)
-
-abbrev pub decreases-loop-i : goal.decreases-loop-i
-decreases-loop-i l = l.n - l.i
+invariant-loop-i l = all_below l.i (λ k. all_below k (λ j. not (same (part (2 + j * l.w) l.w l.s) (part (2 + k * l.w) l.w l.s)))) ≡ true

@@ -1,8 +1,5 @@
--- `fills_corners` meets its contract: a first point that is on no corner decides. Assumes nothing.
-use native.Mathlib.Omega.{arith}
-use mathlib.Core.Path.{sym, ap, ◌∙◌}
-use lib.ListN.{length}
-use borrow.Author.Tests.{not-true, not-false}
+-- A first point that is on no corner decides.
+use Rattle.std.proofs.Common.{◌∙◌, sym, ap, arith, length}
 use Rattle.lists.proofs.Scans.{all_fails}
 use Rattle.openrdson_core.specs.Points.{point_at}
 use Rattle.openrdson_core.specs.Rectangle.{on_some_corner, fills_corners}
@@ -10,12 +7,14 @@ use Rattle.openrdson_core.proofs.rectangle.fills_corners.Goals as goal
 
 pub returns-then-not-on_some_corner : goal.returns-then-not-on_some_corner
 unfolding fills_corners
-returns-then-not-on_some_corner c = rw (all_fails (λ k. on_some_corner c.args.bounds c.args.eps (point_at c.args.xs.now c.args.ys.now k)) (length c.args.xs.now) 0 (omega arith) (ap (on_some_corner c.args.bounds c.args.eps) (sym c.new.ensures) ∙ sym c.on_some_corner.ensures ∙ not-true _ c.if-not-on_some_corner.true-raw))
+returns-then-not-on_some_corner c =
+    rw (all_fails (λ k. on_some_corner c.args.bounds c.args.eps (point_at c.args.ring.xs.now c.args.ring.ys.now k)) (length c.args.ring.xs.now) 0 (omega arith)
+    (ap (on_some_corner c.args.bounds c.args.eps) (sym c.point.ensures) ∙ sym c.on_some_corner.ensures ∙ c.if-not-on_some_corner.true))
 
 pub returns-then-not-all_on_corners : goal.returns-then-not-all_on_corners
 unfolding fills_corners
-returns-then-not-all_on_corners c = rw (sym c.all_on_corners.ensures ∙ not-true _ c.if-not-all_on_corners.true-raw)
+returns-then-not-all_on_corners c = rw (sym c.all_on_corners.ensures ∙ c.if-not-all_on_corners.true)
 
 pub returns : goal.returns
 unfolding fills_corners
-returns c = rw (sym c.all_on_corners.ensures ∙ not-false _ c.if-not-all_on_corners.false-raw) c.all_corners_taken.ensures
+returns c = rw (sym c.all_on_corners.ensures ∙ c.if-not-all_on_corners.false) c.all_corners_taken.ensures

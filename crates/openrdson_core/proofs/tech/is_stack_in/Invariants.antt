@@ -1,13 +1,8 @@
-use Prim.Native.Nat.{◌+◌, ◌*◌, ◌-◌, ◌≤◌}
-use mathlib.Core.Path.{◌≡◌}
-use mathlib.Core.Bool.{true}
+use Rattle.std.proofs.Common.{◌≡◌, ◌+◌, ◌*◌, true}
 use Rattle.lists.specs.Lists.{part, all_below}
 use Rattle.openrdson_core.specs.Blocks.{count}
 use Rattle.openrdson_core.specs.Tech.{figures_in}
 use Rattle.openrdson_core.proofs.tech.is_stack_in.Given as goal
 
 abbrev pub invariant-loop-i : goal.invariant-loop-i
-invariant-loop-i l = (l.i ≤ l.n) × (l.at ≡ 2 + count l.s * 32 + l.i * 17) × (all_below l.i (λ k. figures_in (part (2 + count l.s * 32 + k * 17) 17 l.s)) ≡ true)
-
-abbrev pub decreases-loop-i : goal.decreases-loop-i
-decreases-loop-i l = l.n - l.i
+invariant-loop-i l = all_below l.i (λ k. figures_in (part (2 + count l.s * 32 + k * 17) 17 l.s)) ≡ true

@@ -1,7 +1,0 @@
--- `openrdson_prism_footprint_bbox` meets its contract. Assumes nothing.
-use Rattle.c_api.proofs.SolidCalls.{footprint_of}
-use Rattle.c_api.proofs.Same.{same}
-use Rattle.c_api.proofs.solids.openrdson_prism_footprint_bbox.Goals as goal
-
-pub returns : goal.returns
-returns c = same (footprint_of c.args.xs.now c.args.ys.now c.prism-solid.ensures c.footprint_bbox.ensures) c.give_bounds.ensures

@@ -1,0 +1,71 @@
+// Rings: points in two equally long lists.
+ghost use Rattle.std.specs.Prelude.{◌≡◌, ◌≤◌, ◌<◌, length, IfOk};
+ghost use Rattle.lists.specs.Answer.{map_answer};
+ghost use Rattle.openrdson_core.specs.Points.{point_at, points_in, ring_size, ring_fault};
+ghost use Rattle.openrdson_core.specs.Apart.{points_within};
+ghost use Rattle.openrdson_core.specs.Answers.{answer};
+
+use crate::points::{Point, ring_size};
+use crate::refusals::Refusal;
+
+// At most 512 points.
+#[derive(Clone, Copy)]
+pub struct Ring<'a> {
+    pub xs: &'a [f64],
+    pub ys: &'a [f64],
+    ghost even: { length xs.now ≡ length ys.now },
+    ghost short: { length xs.now ≤ 512 },
+}
+
+impl<'a> Ring<'a> {
+    // The ring of two lists; 16, 2.
+    pub fn new(xs: &'a [f64], ys: &'a [f64]) -> Result<Self, Refusal>
+        ensures size { map_answer (λ _. tt {0}) (answer result) ≡ ring_size (length xs.now) (length ys.now) }
+        ensures lists { IfOk result (λ r. (r.xs.now ≡ xs.now) × (r.ys.now ≡ ys.now)) }
+    {
+        ring_size(xs.len(), ys.len())?;
+        Ok(Ring { xs, ys })
+    }
+
+    // The ring of two lists, its points in range; 16, 2, 1.
+    #[tactic(auto, unfolding(crate::specs::Points::ring_fault))]
+    pub fn checked(xs: &'a [f64], ys: &'a [f64]) -> Result<Self, Refusal>
+        ensures fault { map_answer (λ _. tt {0}) (answer result) ≡ ring_fault xs.now ys.now }
+        ensures lists { IfOk result (λ r. (r.xs.now ≡ xs.now) × (r.ys.now ≡ ys.now)) }
+    {
+        let ring = Ring::new(xs, ys)?;
+        if !ring.is_in_range() {
+            return Err(Refusal::NumberOutOfRange);
+        }
+        Ok(ring)
+    }
+
+    // The point at place i.
+    pub fn point(self, i: usize) -> Point
+        requires { i < length self.xs.now }
+        ensures { result ≡ point_at self.entry.xs.now self.entry.ys.now i }
+    {
+        Point::new(self.xs[i], self.ys[i])
+    }
+
+    // Whether every point is in range.
+    #[tactic(auto, using(crate::proofs::Rings::range_is))]
+    pub fn is_in_range(self) -> bool
+        ensures { result ≡ points_in self.entry.xs.now self.entry.ys.now }
+    {
+        self.is_within(1048576.0)
+    }
+
+    // Whether every coordinate is at most limit in size. There is no branch in the loop, so that several points are tested at once.
+    #[tactic(auto, using(lists::proofs::Scans::all_start, lists::proofs::Scans::all_noted))]
+    pub fn is_within(self, limit: f64) -> bool
+        ensures { result ≡ points_within limit self.entry.xs.now self.entry.ys.now }
+    {
+        let mut fine = true;
+        for i in 0..self.xs.len() {
+            fine = fine
+                & (binary64::is_within(self.xs[i], limit) & binary64::is_within(self.ys[i], limit));
+        }
+        fine
+    }
+}

@@ -1,0 +1,2 @@
+-- What a record says, as the contracts cite it.
+pub mod Words

@@ -1,0 +1,136 @@
+// Replaying the records of the input on a program's calls.
+ghost use Rattle.std.specs.Prelude.{◌≡◌, ℕ, ◌<◌, ◌≤◌, length, take, slice_range, IfOk};
+ghost use Rattle.std.specs.Io.KnownBytes.{Consumes, IsAtEnd};
+
+use crate::record::Record;
+use crate::tally::Tally;
+use std::fmt::Display;
+use std::io;
+use std::io::Read;
+
+// The calls of a program, each shown by its name.
+pub trait Call: Copy + Display + 'static {
+    ghost HEAD: { ℕ };
+
+    ghost LARGEST: { ℕ };
+
+    // The calls in the order of the report.
+    const ALL: &'static [Self];
+
+    // How many bytes tell a record's size, and how many it has at most.
+    const HEAD: usize;
+
+    const LARGEST: usize;
+
+    // The number that stands for the call in word 0.
+    fn number(self) -> u64;
+
+    // The bytes of a record that begins like this one.
+    fn size_of(record: Record<'_>) -> usize
+        ensures low { HEAD ≤ result }
+        ensures high { result ≤ LARGEST };
+
+    // Whether a record of the call has numbers and lists' lengths that it may have.
+    fn is_sound(self, record: Record<'_>) -> bool;
+
+    // Whether the call answers what the record says.
+    fn is_answered(self, record: Record<'_>) -> bool;
+}
+
+// Reads on from place `from` to place `to` of the buffer, which must have both, and gives where the input ended.
+// What stands there is then the input's next bytes. The places before are kept, also where a read fails.
+pub fn read_on<R: Read>(
+    input: &mut R,
+    buffer: &mut [u8],
+    from: usize,
+    to: usize,
+) -> io::Result<usize>
+    requires { (from ≤ to) × (to ≤ length buffer.old) }
+    ensures within { IfOk result (λ end. (from ≤ end) × (end ≤ to)) }
+    ensures bytes { IfOk result (λ end. Consumes (R.remaining input.old) (R.remaining input.new) (slice_range buffer.new from end)) }
+    ensures ended { IfOk result (λ end. end < to → IsAtEnd (R.remaining input.new)) }
+    ensures before { take from buffer.new ≡ take from buffer.old }
+{
+    let mut at = from;
+    // A while: only the reader knows how far a read comes, and std's `read_exact` says nothing of the bytes before an early end.
+    while at < to {
+        let more = input.read(&mut buffer[at..to])?;
+        if more == 0 {
+            break;
+        }
+        at += more;
+    }
+    Ok(at)
+}
+
+// Reads the next record of the input, and gives how many bytes there were.
+fn read_record<C: Call>(input: &mut impl Read, buffer: &mut [u8]) -> io::Result<usize>
+    requires head { C.HEAD ≤ C.LARGEST }
+    requires room { C.LARGEST ≡ length buffer.old }
+    ensures { IfOk result (λ n. n ≤ C.LARGEST) }
+{
+    let n = read_on(input, buffer, 0, C::HEAD)?;
+    if n < C::HEAD {
+        return Ok(n);
+    }
+    let size = C::size_of(Record(buffer));
+    read_on(input, buffer, n, size)
+}
+
+// Replays a record in the tally of its call, and gives false where it is damaged.
+fn replay_record<C: Call>(record: Record<'_>, tallies: &mut [Tally]) -> bool {
+    let mut calls = C::ALL.iter().zip(tallies.iter_mut());
+    let Some((call, tally)) = calls.find(|(call, _)| call.number() == record.word(0)) else {
+        return false;
+    };
+    if !call.is_sound(record) || record.0.len() != C::size_of(record) {
+        return false;
+    }
+    tally.count(call.is_answered(record));
+    true
+}
+
+// Replays the records of the input up to the first damaged one, each in the tally of its call, and gives the tally of those that are damaged.
+fn replay<C: Call>(
+    input: &mut impl Read,
+    buffer: &mut [u8],
+    tallies: &mut [Tally],
+) -> io::Result<Tally>
+    requires head { C.HEAD ≤ C.LARGEST }
+    requires room { C.LARGEST ≡ length buffer.old }
+{
+    let mut damaged = Tally::NONE;
+    for _ in 0..u64::MAX {
+        let n = read_record::<C>(input, buffer)?;
+        if n == 0 {
+            break;
+        }
+        if !replay_record::<C>(Record(&buffer[..n]), tallies) {
+            damaged.count(false);
+            break;
+        }
+    }
+    Ok(damaged)
+}
+
+// Replays the records of the input, and prints how many there are of each call, and how many of them it answers otherwise.
+pub fn run<C: Call>(
+    rt: &impl Print,
+    input: &mut impl Read,
+    buffer: &mut [u8],
+    tallies: &mut [Tally],
+) -> io::Result<()>
+    requires head { C.HEAD ≤ C.LARGEST }
+    requires room { C.LARGEST ≡ length buffer.old }
+{
+    let damaged = replay::<C>(input, buffer, tallies)?;
+    let mut all = damaged;
+    for (call, tally) in C::ALL.iter().zip(tallies.iter()) {
+        println!(rt; "{call} {tally}")?;
+        all = all.plus(*tally);
+    }
+    if damaged.is_any() {
+        println!(rt; "damaged {damaged}")?;
+    }
+    println!(rt; "{all}")
+}

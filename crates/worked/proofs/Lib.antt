@@ -1,0 +1,2 @@
+-- What the programs of worked shapes compute by.
+pub mod OnShapes

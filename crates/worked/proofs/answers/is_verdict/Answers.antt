@@ -1,7 +1,0 @@
--- `is_verdict` meets its contract: by the cases of the answer. Assumes nothing.
-use mathlib.Core.Path.{ap}
-use Rattle.openrdson_core.specs.Answers.{judged_answer}
-use Rattle.worked.proofs.answers.is_verdict.Goals as goal
-
-pub returns-in-Value : goal.returns-in-Value
-returns-in-Value c = rw (ap judged_answer c.in-Value.is)

@@ -1,7 +1,0 @@
--- `verdict_refused` meets its contract: by the cases of the answer. Assumes nothing.
-use mathlib.Core.Path.{ap}
-use Rattle.openrdson_core.specs.Answers.{judged_answer}
-use Rattle.worked.proofs.answers.verdict_refused.Goals as goal
-
-pub returns-in-Refused : goal.returns-in-Refused
-returns-in-Refused c = rw (ap judged_answer c.in-Refused.is, c.number.ensures)

@@ -1,7 +1,0 @@
--- `layer_refused` meets its contract: by the cases of the answer. Assumes nothing.
-use mathlib.Core.Path.{ap}
-use Rattle.openrdson_core.specs.Tech.{stack_layer_answer}
-use Rattle.worked.proofs.names.layer_refused.Goals as goal
-
-pub returns-in-Refused : goal.returns-in-Refused
-returns-in-Refused c = rw (ap stack_layer_answer c.in-Refused.is, c.number.ensures)

@@ -1,0 +1,17 @@
+// A box in a line.
+ghost use Rattle.std.specs.Prelude.{◌≡◌};
+ghost use Rattle.openrdson_core.specs.Bounds.{the_bbox};
+
+use openrdson_core::Bbox;
+
+// The box from (x0, y0) to (x1, y1).
+pub fn box_of(x0: f64, y0: f64, x1: f64, y1: f64) -> Bbox
+    ensures { result ≡ the_bbox x0 y0 x1 y1 }
+{
+    Bbox {
+        min_x: x0,
+        min_y: y0,
+        max_x: x1,
+        max_y: y1,
+    }
+}

@@ -1,0 +1,2 @@
+-- What the checks compute by.
+pub mod OnLayouts

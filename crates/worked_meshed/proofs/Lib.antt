@@ -1,0 +1,5 @@
+-- What the programs of meshes compute by.
+pub mod OnRegions
+pub mod OnPrisms
+pub mod OnModels
+pub mod OnWhole

@@ -1,7 +1,0 @@
--- `meshed_refused` meets its contract: by the cases of the answer. Assumes nothing.
-use mathlib.Core.Path.{ap}
-use Rattle.meshing.specs.Added.{meshed_answer}
-use Rattle.worked_meshed.proofs.meshed_refused.Goals as goal
-
-pub returns-in-Refused : goal.returns-in-Refused
-returns-in-Refused c = rw (ap meshed_answer c.in-Refused.is, c.number.ensures)

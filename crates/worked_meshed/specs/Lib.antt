@@ -1,2 +1,0 @@
--- What the checks ask of the counts.
-pub mod Expected
