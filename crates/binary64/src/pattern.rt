@@ -1,4 +1,4 @@
-// The infinities, and numbers and their bit patterns.
+// The infinities, and numbers and their bit patterns. The infinities are two functions: one that takes a sign is no plainer than two constants.
 ghost use Rattle.std.specs.Prelude.{◌≡◌, ◌/◌, ◌%◌, ◌^◌, true, false, from_bits, to_bits};
 ghost use Rattle.std.specs.Float.{binary64, inf};
 ghost use Rattle.std.specs.Float.Ieee.{le};

@@ -19,7 +19,7 @@ pub fn is_within(d: f64, e: f64) -> bool
     d <= e && d >= -e
 }
 
-// The larger of a and b, and a where they are equal.
+// The larger of a and b, and a where they are equal. Not std's max, which takes b over an a that is no number, and of two zeros the positive one.
 pub fn larger(a: f64, b: f64) -> f64
     ensures { result ≡ numbers.larger a b }
 {

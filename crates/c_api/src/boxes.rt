@@ -9,7 +9,7 @@ ghost use Rattle.c_api.specs.Meshes.{GivenMesh, the_config};
 
 use crate::answers::give;
 use meshing::MeshConfig;
-use openrdson_core::{Bbox, Counts, Material, Refusal};
+use openrdson_core::{Bbox, Counts, Heights, Material, MeshLists, Refusal};
 
 #[unsafe(no_mangle)]
 pub extern "C" fn openrdson_cell_count(extent: f64, cell: f64, cells: &mut usize) -> u32
@@ -46,6 +46,7 @@ pub fn give_grown(meshed: Result<Counts, Refusal>, nodes: &mut usize, elements: 
 }
 
 // The call; the two counts are those of the mesh handed in, and then those of the mesh with the box.
+#[tactic(auto, using(crate::proofs::MeshCalls::given_mesh))]
 #[unsafe(no_mangle)]
 pub extern "C" fn openrdson_mesh_box(
     bounds: Bbox,
@@ -74,20 +75,21 @@ pub extern "C" fn openrdson_mesh_box(
         nodes: *nodes,
         elements: *elements,
     };
-    let meshed = meshing::mesh_box(
-        bounds,
-        z_bottom,
-        z_top,
-        Material(material),
-        region,
-        config,
-        counts,
+    let heights = Heights {
+        bottom: z_bottom,
+        top: z_top,
+    };
+    let mut lists = MeshLists {
         xs,
         ys,
         zs,
         kinds,
         places,
         regions,
+    };
+    let material = Material(material);
+    let meshed = meshing::mesh_box(
+        bounds, heights, material, region, config, counts, &mut lists,
     );
     give_grown(meshed, nodes, elements)
 }

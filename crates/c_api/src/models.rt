@@ -6,10 +6,12 @@ ghost use Rattle.meshing.specs.Models.{mesh_model, the_overrides, no_overrides};
 ghost use Rattle.c_api.specs.Meshes.{GivenModel, the_config};
 
 use crate::boxes::give_grown;
-use meshing::MeshConfig;
-use openrdson_core::Counts;
+use geometry::Regions;
+use meshing::{MeshConfig, Overrides};
+use openrdson_core::{Counts, MeshLists};
 
 // The three lists of overrides are materials and their cell sizes.
+#[tactic(auto, using(crate::proofs::MeshCalls::given_model))]
 #[unsafe(no_mangle)]
 pub extern "C" fn openrdson_mesh_model_with_options(
     row_kinds: &[u8],
@@ -51,8 +53,8 @@ pub extern "C" fn openrdson_mesh_model_with_options(
         nodes: *nodes,
         elements: *elements,
     };
-    let meshed = meshing::mesh_model_with_options(
-        row_kinds,
+    let rows = Regions {
+        kinds: row_kinds,
         min_x,
         min_y,
         max_x,
@@ -60,28 +62,38 @@ pub extern "C" fn openrdson_mesh_model_with_options(
         z_bottom,
         z_top,
         starts,
-        row_counts,
-        row_materials,
+        counts: row_counts,
+        materials: row_materials,
         nets,
         polygons,
-        point_x,
-        point_y,
+    };
+    let overrides = Overrides {
         materials,
         laterals,
         verticals,
-        config,
-        counts,
+    };
+    let mut lists = MeshLists {
         xs,
         ys,
         zs,
         kinds,
         places,
         regions,
+    };
+    let meshed = meshing::mesh_model_with_options(
+        rows,
+        point_x,
+        point_y,
+        overrides,
+        config,
+        counts,
+        &mut lists,
         diagnostics,
     );
     give_grown(meshed, nodes, elements)
 }
 
+#[tactic(auto, using(crate::proofs::MeshCalls::given_model))]
 #[unsafe(no_mangle)]
 pub extern "C" fn openrdson_mesh_model(
     row_kinds: &[u8],
@@ -120,8 +132,8 @@ pub extern "C" fn openrdson_mesh_model(
         nodes: *nodes,
         elements: *elements,
     };
-    let meshed = meshing::mesh_model(
-        row_kinds,
+    let rows = Regions {
+        kinds: row_kinds,
         min_x,
         min_y,
         max_x,
@@ -129,20 +141,26 @@ pub extern "C" fn openrdson_mesh_model(
         z_bottom,
         z_top,
         starts,
-        row_counts,
-        row_materials,
+        counts: row_counts,
+        materials: row_materials,
         nets,
         polygons,
-        point_x,
-        point_y,
-        config,
-        counts,
+    };
+    let mut lists = MeshLists {
         xs,
         ys,
         zs,
         kinds,
         places,
         regions,
+    };
+    let meshed = meshing::mesh_model(
+        rows,
+        point_x,
+        point_y,
+        config,
+        counts,
+        &mut lists,
         diagnostics,
     );
     give_grown(meshed, nodes, elements)

@@ -8,8 +8,11 @@ ghost use Rattle.c_api.specs.Meshes.{GivenMesh, the_config};
 
 use crate::boxes::give_grown;
 use meshing::MeshConfig;
-use openrdson_core::{Bbox, Counts, Material, PolygonNumber, Solid, SolidRegion};
+use openrdson_core::{
+    Bbox, Counts, Heights, Material, MeshLists, PolygonNumber, Solid, SolidRegion,
+};
 
+#[tactic(auto, using(crate::proofs::MeshCalls::given_mesh))]
 #[unsafe(no_mangle)]
 pub extern "C" fn openrdson_mesh_prism(
     point_x: &[f64],
@@ -35,27 +38,27 @@ pub extern "C" fn openrdson_mesh_prism(
         nodes: *nodes,
         elements: *elements,
     };
-    let meshed = meshing::mesh_prism(
-        point_x,
-        point_y,
-        z_bottom,
-        z_top,
-        start,
-        count,
-        Material(material),
-        region,
-        counts,
+    let heights = Heights {
+        bottom: z_bottom,
+        top: z_top,
+    };
+    let mut lists = MeshLists {
         xs,
         ys,
         zs,
         kinds,
         places,
         regions,
+    };
+    let material = Material(material);
+    let meshed = meshing::mesh_prism(
+        point_x, point_y, heights, start, count, material, region, counts, &mut lists,
     );
     give_grown(meshed, nodes, elements)
 }
 
 // `mesh_region` on a region that is a box; its net and its polygon are not looked at.
+#[tactic(auto, using(crate::proofs::MeshCalls::given_mesh))]
 #[unsafe(no_mangle)]
 pub extern "C" fn openrdson_mesh_box_region(
     bounds: Bbox,
@@ -101,13 +104,20 @@ pub extern "C" fn openrdson_mesh_box_region(
         nodes: *nodes,
         elements: *elements,
     };
-    let meshed = meshing::mesh_region(
-        region, point_x, point_y, number, config, counts, xs, ys, zs, kinds, places, regions,
-    );
+    let mut lists = MeshLists {
+        xs,
+        ys,
+        zs,
+        kinds,
+        places,
+        regions,
+    };
+    let meshed = meshing::mesh_region(region, point_x, point_y, number, config, counts, &mut lists);
     give_grown(meshed, nodes, elements)
 }
 
 // `mesh_region` on a region that is a prism; its net and its polygon are not looked at.
+#[tactic(auto, using(crate::proofs::MeshCalls::given_mesh))]
 #[unsafe(no_mangle)]
 pub extern "C" fn openrdson_mesh_prism_region(
     z_bottom: f64,
@@ -152,8 +162,14 @@ pub extern "C" fn openrdson_mesh_prism_region(
         nodes: *nodes,
         elements: *elements,
     };
-    let meshed = meshing::mesh_region(
-        region, point_x, point_y, number, config, counts, xs, ys, zs, kinds, places, regions,
-    );
+    let mut lists = MeshLists {
+        xs,
+        ys,
+        zs,
+        kinds,
+        places,
+        regions,
+    };
+    let meshed = meshing::mesh_region(region, point_x, point_y, number, config, counts, &mut lists);
     give_grown(meshed, nodes, elements)
 }

@@ -9,7 +9,8 @@ ghost use Rattle.c_api.specs.Given.{Given};
 ghost use Rattle.c_api.specs.Regions as spec;
 
 use crate::answers::give;
-use openrdson_core::{Bbox, Material, Refusal, Solid, SolidRegion};
+use geometry::Regions;
+use openrdson_core::{Bbox, Heights, Material, Refusal, Solid, SolidRegion};
 
 // The entries of a solid: a prism's first four bounds and a box's start and count are zero.
 fn give_solid(
@@ -120,7 +121,11 @@ pub extern "C" fn openrdson_extrude_polygon(
 ) -> u32
     ensures { Given (map_answer spec.row_of (extrude_polygon xs.now ys.now z_bottom z_top material net)) result (spec.the_row (spec.the_solid_row kind.old min_x.old min_y.old max_x.old max_y.old out_z_bottom.old out_z_top.old start.old count.old) out_material.old out_net.old polygon.old) (spec.the_row (spec.the_solid_row kind.new min_x.new min_y.new max_x.new max_y.new out_z_bottom.new out_z_top.new start.new count.new) out_material.new out_net.new polygon.new) }
 {
-    let built = geometry::extrude_polygon(xs, ys, z_bottom, z_top, Material(material), net);
+    let heights = Heights {
+        bottom: z_bottom,
+        top: z_top,
+    };
+    let built = geometry::extrude_polygon(xs, ys, heights, Material(material), net);
     give_region(
         built,
         kind,
@@ -160,7 +165,11 @@ pub extern "C" fn openrdson_extrude_box(
 ) -> u32
     ensures { Given (map_answer spec.row_of (extrude_box sides z_bottom z_top material net)) result (spec.the_row (spec.the_solid_row kind.old min_x.old min_y.old max_x.old max_y.old out_z_bottom.old out_z_top.old start.old count.old) out_material.old out_net.old polygon.old) (spec.the_row (spec.the_solid_row kind.new min_x.new min_y.new max_x.new max_y.new out_z_bottom.new out_z_top.new start.new count.new) out_material.new out_net.new polygon.new) }
 {
-    let built = geometry::extrude_box(sides, z_bottom, z_top, Material(material), net);
+    let heights = Heights {
+        bottom: z_bottom,
+        top: z_top,
+    };
+    let built = geometry::extrude_box(sides, heights, Material(material), net);
     give_region(
         built,
         kind,
@@ -198,9 +207,19 @@ pub extern "C" fn openrdson_total_volume(
 ) -> u32
     ensures { Given (total_volume (the_regions kinds.now min_x.now min_y.now max_x.now max_y.now z_bottom.now z_top.now starts.now counts.now materials.now nets.now polygons.now) xs.now ys.now) result volume.old volume.new }
 {
-    let total = geometry::total_volume(
-        kinds, min_x, min_y, max_x, max_y, z_bottom, z_top, starts, counts, materials, nets,
-        polygons, xs, ys,
-    );
-    give(total, volume)
+    let regions = Regions {
+        kinds,
+        min_x,
+        min_y,
+        max_x,
+        max_y,
+        z_bottom,
+        z_top,
+        starts,
+        counts,
+        materials,
+        nets,
+        polygons,
+    };
+    give(geometry::total_volume(regions, xs, ys), volume)
 }

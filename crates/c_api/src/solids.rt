@@ -8,7 +8,7 @@ ghost use Rattle.c_api.specs.Given.{Given};
 use crate::answers::{give, give_bounds};
 use openrdson_core::{Material, PolygonNumber, Solid, SolidRegion};
 
-// A box, a prism and a region with these numbers.
+// A box, a prism and a region with these numbers, which C hands over by themselves.
 fn boxed(min_x: f64, min_y: f64, max_x: f64, max_y: f64, z_bottom: f64, z_top: f64) -> Solid
     ensures { result ≡ Box min_x min_y max_x max_y z_bottom z_top }
 {

@@ -1,6 +1,6 @@
 // Stacking as a C function.
 ghost use Rattle.std.specs.Prelude.{◌≡◌};
-ghost use Rattle.geometry.specs.Plans.{the_blocks};
+ghost use Rattle.openrdson_core.specs.Tech.{the_blocks};
 ghost use Rattle.geometry.specs.Polygons.{the_polygons};
 ghost use Rattle.geometry.specs.Regions.{the_regions};
 ghost use Rattle.geometry.specs.Stack.{assemble_stack};
@@ -8,9 +8,11 @@ ghost use Rattle.c_api.specs.Given.{Given};
 ghost use Rattle.c_api.specs.Stacks.{GivenRows};
 
 use crate::answers::give;
-use geometry::assemble_stack;
+use geometry::{Polygons, RegionLists, assemble_stack};
+use openrdson_core::Blocks;
 
 // The call; the number of regions is given through the last reference.
+#[tactic(auto, using(crate::proofs::StackRows::given_rows))]
 #[unsafe(no_mangle)]
 pub extern "C" fn openrdson_assemble_stack(
     names: &[u8],
@@ -42,19 +44,23 @@ pub extern "C" fn openrdson_assemble_stack(
 ) -> u32
     ensures { GivenRows (assemble_stack (the_blocks names.now conducting.now via.now conductors.now diffusions.now vias.now) (the_polygons layers.now nets.now starts.now counts.now xs.now ys.now) (the_regions kinds.old min_x.old min_y.old max_x.old max_y.old z_bottom.old z_top.old region_starts.old region_counts.old materials.old region_nets.old polygons.old) outcomes.old) result regions.old regions.new (the_regions kinds.old min_x.old min_y.old max_x.old max_y.old z_bottom.old z_top.old region_starts.old region_counts.old materials.old region_nets.old polygons.old) (the_regions kinds.new min_x.new min_y.new max_x.new max_y.new z_bottom.new z_top.new region_starts.new region_counts.new materials.new region_nets.new polygons.new) outcomes.old outcomes.new }
 {
-    let stacked = assemble_stack(
+    let blocks = Blocks {
         names,
         conducting,
         via,
         conductors,
         diffusions,
         vias,
+    };
+    let layout = Polygons {
         layers,
         nets,
         starts,
         counts,
         xs,
         ys,
+    };
+    let mut rows = RegionLists {
         kinds,
         min_x,
         min_y,
@@ -62,12 +68,12 @@ pub extern "C" fn openrdson_assemble_stack(
         max_y,
         z_bottom,
         z_top,
-        region_starts,
-        region_counts,
+        starts: region_starts,
+        counts: region_counts,
         materials,
-        region_nets,
+        nets: region_nets,
         polygons,
-        outcomes,
-    );
+    };
+    let stacked = assemble_stack(blocks, layout, &mut rows, outcomes);
     give(stacked, regions)
 }

@@ -8,7 +8,9 @@ ghost use Rattle.c_api.specs.Meshes.{GivenWelded};
 
 use crate::answers::give;
 use crate::boxes::give_grown;
+use openrdson_core::{Mesh, MeshLists};
 
+#[tactic(auto, using(crate::proofs::MeshCalls::given_welded))]
 #[unsafe(no_mangle)]
 pub extern "C" fn openrdson_weld_nodes(
     xs: &[f64],
@@ -29,21 +31,23 @@ pub extern "C" fn openrdson_weld_nodes(
 ) -> u32
     ensures { GivenWelded (weld_nodes (the_mesh xs.now ys.now zs.now kinds.now places.now regions.now) tolerance (the_mesh out_x.old out_y.old out_z.old out_kinds.old out_places.old out_regions.old)) result (the_counts nodes.old elements.old) (the_counts nodes.new elements.new) (the_mesh out_x.old out_y.old out_z.old out_kinds.old out_places.old out_regions.old) (the_mesh out_x.new out_y.new out_z.new out_kinds.new out_places.new out_regions.new) }
 {
-    let welded = meshing::weld_nodes(
+    let mesh = Mesh {
         xs,
         ys,
         zs,
         kinds,
         places,
         regions,
-        tolerance,
-        out_x,
-        out_y,
-        out_z,
-        out_kinds,
-        out_places,
-        out_regions,
-    );
+    };
+    let mut out = MeshLists {
+        xs: out_x,
+        ys: out_y,
+        zs: out_z,
+        kinds: out_kinds,
+        places: out_places,
+        regions: out_regions,
+    };
+    let welded = meshing::weld_nodes(mesh, tolerance, &mut out);
     give_grown(welded, nodes, elements)
 }
 
@@ -59,6 +63,13 @@ pub extern "C" fn openrdson_mesh_volume(
 ) -> u32
     ensures { Given (mesh_volume (the_mesh xs.now ys.now zs.now kinds.now places.now regions.now)) result volume.old volume.new }
 {
-    let measured = meshing::mesh_volume(xs, ys, zs, kinds, places, regions);
-    give(measured, volume)
+    let mesh = Mesh {
+        xs,
+        ys,
+        zs,
+        kinds,
+        places,
+        regions,
+    };
+    give(meshing::mesh_volume(mesh), volume)
 }

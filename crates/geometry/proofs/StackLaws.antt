@@ -1,12 +1,12 @@
 -- What the polygons come to, one after the other.
-use Rattle.std.proofs.Common.{ℕ, zero, suc, ◌+◌, ◌≤◌, ◌<◌, ◌≡◌, refl, sym, ap, ◌∙◌, inl, inr, ◌++◌, eq-or-lt_of_le, add-one, arith, length, length-append}
+use Rattle.std.proofs.Common.{ℕ, zero, suc, ◌+◌, ◌≤◌, ◌<◌, ◌≡◌, refl, sym, ap, subst, ◌∙◌, inl, inr, ◌++◌, eq-or-lt_of_le, add-one, arith, length, length-append}
 use Rattle.lists.specs.Lists.{runs, fold_below}
 use Rattle.geometry.specs.Regions.{Regions, Even, put_regions}
 use Rattle.geometry.specs.Polygons.{Polygons}
 use Rattle.geometry.specs.Stack.{rows_of, regions_at, regions_to, rows_to}
 use Rattle.std.specs.Prelude.{Ok, Err}
 use Rattle.geometry.specs.Plans.{Plan}
-use Rattle.geometry.proofs.RowLaws.{no_rows, more_rows}
+use Rattle.geometry.proofs.RowLaws.{no_rows, more_rows, rows_long, rows_even}
 
 -- ---- one polygon
 
@@ -82,6 +82,16 @@ module _ (p : Polygons) where
       -- row k is there for polygon i
       pub place_room : (i k : ℕ) → i < n → k ≡ rows_to plan i → k + rows_of (plan i) ≤ length r₀.kinds
       place_room i k h e = omega (arith, e, rows_among plan n i h, rows_are n, room)
+
+      sofar_room : (i : ℕ) → i < n → 0 + length (regions_to p plan i) ≤ length r₀.kinds
+      sofar_room i h = omega (arith, rows_are i, rows_among plan n i h, rows_are n, room)
+
+      -- the lists are as long as they were
+      pub placed_long : (i : ℕ) (r : Regions) → i < n → r ≡ put_regions r₀ 0 (regions_to p plan i) → length r.kinds ≡ length r₀.kinds
+      placed_long i r h f = ap (λ (l : Regions). length l.kinds) f ∙ rows_long r₀ w (regions_to p plan i) 0 (sofar_room i h)
+
+      pub placed_even : (i : ℕ) (r : Regions) → i < n → r ≡ put_regions r₀ 0 (regions_to p plan i) → Even r
+      placed_even i r h f = subst (λ (l : Regions). Even l) (sym f) (rows_even r₀ w (regions_to p plan i) 0 (sofar_room i h))
 
       -- a turn that writes the rows of polygon i
       pub placed_more : (i k : ℕ) (r r' : Regions) (q : Plan) → i < n → k ≡ rows_to plan i → r ≡ put_regions r₀ 0 (regions_to p plan i) → r' ≡ put_regions r k (regions_at p i q) → q ≡ plan i

@@ -7,7 +7,7 @@ use Rattle.binary64.specs.Numbers.{at_most, abs}
 use Rattle.openrdson_core.specs.Bytes.{same, zeros, name_length, name_ok, little, starts_with, contains}
 use Rattle.openrdson_core.specs.Blocks.{figures_ok, name_or_none, block_ok, row_of}
 use Rattle.openrdson_core.specs.Layout.{row_of_pattern, is_marker}
-use Rattle.openrdson_core.specs.Tech.{figures_in, stack_in, material_of, blocks_fault}
+use Rattle.openrdson_core.specs.Tech.{Blocks, the_blocks, figures_in, stack_in, material_of, blocks_fault}
 use Rattle.openrdson_core.specs.Points.{ring_fault}
 use Rattle.openrdson_core.specs.Bounds.{bounds_of}
 use Rattle.openrdson_core.specs.Rectangle.{on_corner, on_some_corner, fills_corners, fills_bounds}
@@ -17,7 +17,7 @@ use Rattle.geometry.specs.Extrude.{solid_of}
 use Rattle.geometry.specs.Polygons.{Polygons, the_polygons, even_polygons, part_fault, part_solid}
 use Rattle.geometry.specs.Ranges.{diffusion_range, layer_range, stack_range}
 use Rattle.std.specs.Prelude.{Ok, Err}
-use Rattle.geometry.specs.Plans.{Blocks, Plan, the_blocks, plan_of_physical, plan_of_name, plan_of}
+use Rattle.geometry.specs.Plans.{Plan, plan_of_physical, plan_of_name, plan_of}
 use Rattle.geometry.specs.declared.plans.Skip.TheVariants.{NoRange}
 use Rattle.geometry.specs.Stack.{regions_to, outcomes_to, fitted, stack_fault, assemble_stack}
 

@@ -8,7 +8,8 @@ use Rattle.openrdson_core.specs.Blocks.{count, value_at}
 use Rattle.openrdson_core.specs.Layout.{pattern_of, row_of_pattern}
 use Rattle.openrdson_core.specs.declared.blocks.Cell.TheVariants.{Number, Name}
 use Rattle.openrdson_core.proofs.LayoutLaws.{layer_below}
-use Rattle.geometry.specs.Plans.{Blocks, Plan, with_name, plan_of, row_plan}
+use Rattle.openrdson_core.specs.Tech.{Blocks}
+use Rattle.geometry.specs.Plans.{Plan, with_name, plan_of, row_plan}
 use Rattle.geometry.specs.Table.{plan_of_row, layer_plan}
 use Rattle.geometry.specs.declared.plans.Skip.TheVariants.{Unnamed}
 

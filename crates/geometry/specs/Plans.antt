@@ -1,12 +1,12 @@
 -- What stacking makes of a layer: outcomes 2 to 5, tested in this order, or two heights and a material.
-use Rattle.std.specs.Prelude.{ℕ, ◌≡◌, true, cond, List, ℤ, Option, Some, None, Result, Ok, Err}
+use Rattle.std.specs.Prelude.{ℕ, cond, List, ℤ, Option, Some, None, Result, Ok, Err}
 use Rattle.std.specs.Option.{option_or}
 use Rattle.std.specs.Float.Ieee.{le}
 use Rattle.openrdson_core.specs.Bytes.{unpad}
-use Rattle.openrdson_core.specs.Blocks.{value_at, layer_names_ok, map_ok, stack_ok, vias_ok}
+use Rattle.openrdson_core.specs.Blocks.{value_at}
 use Rattle.openrdson_core.specs.declared.blocks.Cell.TheVariants.{Number, Name}
 use Rattle.openrdson_core.specs.Maps.{in_map}
-use Rattle.openrdson_core.specs.Tech.{material_of}
+use Rattle.openrdson_core.specs.Tech.{Blocks, material_of}
 use Rattle.openrdson_core.specs.Layout.{name_of_layer, is_marker}
 use Rattle.geometry.specs.Ranges.{Range, stack_range}
 use Rattle.geometry.specs.declared.plans.Skip.{Skip}
@@ -23,28 +23,6 @@ skip_number Unnamed = 2
 skip_number Marker = 3
 skip_number Unmatched = 4
 skip_number NoRange = 5
-
--- the six name blocks
-pub record Blocks : Type 0 where
-  pub names : List ℕ
-  pub conducting : List ℕ
-  pub via : List ℕ
-  pub conductors : List ℕ
-  pub diffusions : List ℕ
-  pub vias : List ℕ
-
-abbrev pub the_blocks : List ℕ → List ℕ → List ℕ → List ℕ → List ℕ → List ℕ → Blocks
-the_blocks names conducting via conductors diffusions vias =
-    record { names = names; conducting = conducting; via = via; conductors = conductors; diffusions = diffusions; vias = vias }
-
--- none of them is damaged
-pub record Sound (b : Blocks) : Type 0 where
-  pub names : layer_names_ok b.names ≡ true
-  pub conducting : map_ok b.conducting ≡ true
-  pub via : map_ok b.via ≡ true
-  pub conductors : stack_ok b.conductors ≡ true
-  pub diffusions : stack_ok b.diffusions ≡ true
-  pub vias : vias_ok b.vias ≡ true
 
 -- 5 where there is no range, or its top is not above its bottom; else the range with a material
 abbrev pub with_range : ℕ → Range → Plan

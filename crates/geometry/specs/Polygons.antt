@@ -6,6 +6,7 @@ use Rattle.openrdson_core.specs.Points.{ring_fault}
 use Rattle.openrdson_core.specs.declared.solids.Solid.{Solid}
 use Rattle.geometry.specs.Regions.{all_equal}
 use Rattle.geometry.specs.Extrude.{solid_of}
+use Rattle.geometry.specs.declared.polygons.Polygons.{Polygons as Lent}
 
 pub record Polygons : Type 0 where
   pub layers : List ℤ
@@ -17,6 +18,10 @@ pub record Polygons : Type 0 where
 
 abbrev pub the_polygons : List ℤ → List ℕ → List ℕ → List ℕ → List Float → List Float → Polygons
 the_polygons layers nets starts counts xs ys = record { layers = layers; nets = nets; starts = starts; counts = counts; xs = xs; ys = ys }
+
+-- what lent polygons hold
+abbrev pub polygons_of : Lent → Polygons
+polygons_of p = the_polygons p.layers.now p.nets.now p.starts.now p.counts.now p.xs.now p.ys.now
 
 -- the lists are equally long, four of polygons and two of points (16)
 unfoldable pub even_polygons : Polygons → Bool
@@ -38,6 +43,14 @@ part_fault xs ys start count = unless (leb (start + count) (length xs)) 15 (ring
 -- of the first n polygons, the first that is turned down decides
 abbrev pub parts_fault : List Float → List Float → List ℕ → List ℕ → ℕ → Answer (Unit {0})
 parts_fault xs ys starts counts n = fold_answer n (λ (_ : Unit {0}) (i : ℕ). part_fault xs ys (get_or starts i 0) (get_or counts i 0)) tt
+
+-- against a layout's polygons: 16, 2, then polygon by polygon
+unfoldable pub polygons_fault : Polygons → Answer (Unit {0})
+polygons_fault p =
+    unless (even_polygons p) 16
+    (unless (leb (length p.layers) 4096) 2
+    (unless (leb (length p.xs) 2097152) 2
+    (parts_fault p.xs p.ys p.starts p.counts (length p.layers))))
 
 -- its solid between two heights; a prism has the polygon's own start and count
 unfoldable pub part_solid : List Float → List Float → ℕ → ℕ → Float → Float → Solid

@@ -5,11 +5,11 @@ use Rattle.openrdson_core.specs.Blocks.{entry_of}
 use Rattle.openrdson_core.specs.Tech.{figures_of, ViaNames, via_names_of}
 use Rattle.openrdson_core.specs.declared.blocks.Cell.TheVariants as cell
 use Rattle.openrdson_core.specs.declared.tech.Figures.{Figures}
-use Rattle.geometry.specs.declared.ranges.ZRange.{ZRange}
+use Rattle.openrdson_core.specs.declared.solids.Heights.{Heights}
 
 -- a bottom and a top, if there are any
 abbrev pub Range : Type 0
-Range = Option ZRange
+Range = Option Heights
 
 -- height to height + thickness, where both are present
 abbrev pub from_to : Option Float → Option Float → Range

@@ -5,6 +5,7 @@ use Rattle.lists.specs.Answer.{Answer, given, unless, map_answer}
 use Rattle.lists.specs.Lists.{put}
 use Rattle.binary64.specs.Numbers.{at}
 use Rattle.binary64.specs.Constants.{zero64}
+use Rattle.openrdson_core.specs.Bounds.{the_bbox}
 use Rattle.openrdson_core.specs.Solids.{z_bottom_of, z_top_of}
 use Rattle.openrdson_core.specs.declared.solids.Solid.{Solid}
 use Rattle.openrdson_core.specs.declared.solids.Solid.TheVariants.{Box, Prism}
@@ -13,6 +14,9 @@ use Rattle.openrdson_core.specs.declared.refusals.Refusal.{Refusal}
 use Rattle.openrdson_core.specs.declared.refusals.Refusal.TheVariants.{OutsideList}
 use Rattle.geometry.specs.declared.regions.RowKind.{RowKind}
 use Rattle.geometry.specs.declared.regions.RowKind.TheVariants as rows
+use Rattle.geometry.specs.declared.regions.Regions.{Regions as Listed}
+use Rattle.geometry.specs.declared.regions.RegionLists.{RegionLists}
+use Rattle.geometry.specs.declared.rows.Cells.{Cells}
 
 pub record Regions : Type 0 where
   pub kinds : List ℕ
@@ -44,6 +48,31 @@ the_regions kinds x0 y0 x1 y1 z0 z1 starts counts materials nets polygons =
       nets = nets;
       polygons = polygons;
     }
+
+-- the region list in lists that are read
+abbrev pub listed : Listed → Regions
+listed r =
+    the_regions r.kinds.now r.min_x.now r.min_y.now r.max_x.now r.max_y.now r.z_bottom.now r.z_top.now r.starts.now r.counts.now r.materials.now r.nets.now r.polygons.now
+
+-- the region list in lists that are written
+abbrev pub held_regions : RegionLists → Regions
+held_regions r =
+    the_regions r.kinds.now r.min_x.now r.min_y.now r.max_x.now r.max_y.now r.z_bottom.now r.z_top.now r.starts.now r.counts.now r.materials.now r.nets.now r.polygons.now
+
+-- they are the same lists: what one of them holds in the end, the caller's list holds
+pub record SameRegions (m n : RegionLists) : Type 0 where
+  pub kinds : n.kinds.ghost_name ≡ m.kinds.ghost_name
+  pub min_x : n.min_x.ghost_name ≡ m.min_x.ghost_name
+  pub min_y : n.min_y.ghost_name ≡ m.min_y.ghost_name
+  pub max_x : n.max_x.ghost_name ≡ m.max_x.ghost_name
+  pub max_y : n.max_y.ghost_name ≡ m.max_y.ghost_name
+  pub z_bottom : n.z_bottom.ghost_name ≡ m.z_bottom.ghost_name
+  pub z_top : n.z_top.ghost_name ≡ m.z_top.ghost_name
+  pub starts : n.starts.ghost_name ≡ m.starts.ghost_name
+  pub counts : n.counts.ghost_name ≡ m.counts.ghost_name
+  pub materials : n.materials.ghost_name ≡ m.materials.ghost_name
+  pub nets : n.nets.ghost_name ≡ m.nets.ghost_name
+  pub polygons : n.polygons.ghost_name ≡ m.polygons.ghost_name
 
 -- ---- the kinds of rows
 
@@ -121,11 +150,12 @@ region_at r points i =
 
 -- ---- writing rows
 
--- what a solid writes in each list: 0 for a box and 1 for a prism; a prism's first four bounds and a box's start and count are zero
+-- the kind of a solid's row
 abbrev pub row_kind : Solid → RowKind
 row_kind (Box x0 y0 x1 y1 z0 z1) = rows.Box
 row_kind (Prism z0 z1 start count) = rows.Prism
 
+-- what a solid writes in each list: 0 for a box and 1 for a prism; a prism's first four bounds and a box's start and count are zero
 abbrev pub kind_of : Solid → ℕ
 kind_of s = kind_number (row_kind s)
 
@@ -152,6 +182,10 @@ start_of (Prism z0 z1 start count) = start
 abbrev pub count_of : Solid → ℕ
 count_of (Box x0 y0 x1 y1 z0 z1) = 0
 count_of (Prism z0 z1 start count) = count
+
+-- all of these but the heights
+abbrev pub cells_of : Solid → Cells
+cells_of s = record { kind = row_kind s; sides = the_bbox (min_x_of s) (min_y_of s) (max_x_of s) (max_y_of s); part = record { start = start_of s; count = count_of s } }
 
 -- the lists with these regions in them from row k on
 abbrev pub put_regions : Regions → ℕ → List SolidRegion → Regions

@@ -3,12 +3,12 @@ use Rattle.std.specs.Prelude.{ℕ, ◌+◌, ◌≡◌, List, [], ◌∷◌, leb,
 use Rattle.lists.specs.Answer.{Answer, given, unless, and_then, map_answer, left}
 use Rattle.lists.specs.Lists.{put, runs, elems, fold_below}
 use Rattle.openrdson_core.specs.Answers.{answer}
-use Rattle.openrdson_core.specs.Tech.{blocks_fault}
+use Rattle.openrdson_core.specs.Tech.{Blocks, blocks_fault}
 use Rattle.openrdson_core.specs.declared.refusals.Refusal.{Refusal}
 use Rattle.openrdson_core.specs.declared.solids.SolidRegion.{SolidRegion}
 use Rattle.geometry.specs.Regions.{Regions, even_regions, the_region, kind_number, kind_of, put_regions}
 use Rattle.geometry.specs.Polygons.{Polygons, even_polygons, parts_fault, part_solid, layer_at}
-use Rattle.geometry.specs.Plans.{Blocks, Plan, skip_number, plan_of}
+use Rattle.geometry.specs.Plans.{Plan, skip_number, plan_of}
 use Rattle.geometry.specs.declared.plans.Skip.{Skip}
 use Rattle.geometry.specs.declared.regions.RowKind.{RowKind}
 

@@ -12,6 +12,7 @@ mod table;
 mod volume;
 
 pub use extrude::{extrude_box, extrude_polygon, extrude_ring};
-pub use regions::{LARGEST_MATERIAL, NO_POLYGON, are_regions_even, region_at};
+pub use polygons::{Polygons, SoundPolygons};
+pub use regions::{EvenRegions, LARGEST_MATERIAL, NO_POLYGON, Part, RegionLists, Regions};
 pub use stack::assemble_stack;
 pub use volume::total_volume;

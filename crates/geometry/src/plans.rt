@@ -1,12 +1,12 @@
-// What stacking makes of a layer. The blocks have been checked.
-ghost use Rattle.std.specs.Prelude.{◌≡◌, true, option_map};
+// What stacking makes of a layer.
+ghost use Rattle.std.specs.Prelude.{◌≡◌, option_map};
 ghost use Rattle.std.specs.Option.{option_or};
-ghost use Rattle.openrdson_core.specs.Blocks.{map_ok};
+ghost use Rattle.openrdson_core.specs.SoundBlocks.{sound_bytes};
 ghost use Rattle.openrdson_core.specs.Maps.{in_map};
 ghost use Rattle.geometry.specs.Plans as spec;
 
-use crate::ranges::{ZRange, stack_range};
-use openrdson_core::{Material, find_in_map, find_material, is_marker};
+use crate::ranges::stack_range;
+use openrdson_core::{Heights, Material, SoundBlocks, is_marker};
 
 // Why a polygon has no region, in the order of the tests.
 #[derive(Clone, Copy, Debug, PartialEq, Eq)]
@@ -34,7 +34,7 @@ impl From<Skip> for u8 {
 // Two heights and a material.
 #[derive(Clone, Copy, Debug, PartialEq)]
 pub struct Slab {
-    pub range: ZRange,
+    pub range: Heights,
     pub material: Material,
 }
 
@@ -43,58 +43,36 @@ pub type Plan = Result<Slab, Skip>;
 
 // The plan for a physical name.
 #[tactic(auto, unfolding(crate::specs::Plans::plan_of_physical))]
-fn plan_of_physical(
-    names: &[u8],
-    conducting: &[u8],
-    via: &[u8],
-    conductors: &[u8],
-    diffusions: &[u8],
-    vias: &[u8],
-    physical: &[u8],
-) -> Plan
-    requires { spec.Sound (spec.the_blocks names.now conducting.now via.now conductors.now diffusions.now vias.now) }
-    ensures { result ≡ spec.plan_of_physical (spec.the_blocks names.now conducting.now via.now conductors.now diffusions.now vias.now) physical.now }
+fn plan_of_physical(blocks: SoundBlocks<'_>, physical: &[u8]) -> Plan
+    ensures { result ≡ spec.plan_of_physical (sound_bytes blocks.entry) physical.now }
 {
-    let range = stack_range(conductors, diffusions, vias, physical).ok_or(Skip::NoRange)?;
+    let range = stack_range(blocks, physical).ok_or(Skip::NoRange)?;
     if range.top <= range.bottom {
         return Err(Skip::NoRange);
     }
-    let material = find_material(conductors, diffusions, vias, physical);
+    let material = blocks.find_material(physical);
     Ok(Slab { range, material })
 }
 
 // The physical name of a logical one, by the conducting map, else by the via map.
-fn physical_of<'a>(conducting: &'a [u8], via: &'a [u8], name: &[u8]) -> Option<&'a [u8]>
-    requires conducting { map_ok conducting.now ≡ true }
-    requires via { map_ok via.now ≡ true }
-    ensures { option_map (λ s. s.now) result ≡ option_or (in_map conducting.now name.now) (in_map via.now name.now) }
+fn physical_of<'a>(blocks: SoundBlocks<'a>, name: &[u8]) -> Option<&'a [u8]>
+    ensures { option_map (λ s. s.now) result ≡ option_or (in_map blocks.entry.conducting.bytes.now name.now) (in_map blocks.entry.via.bytes.now name.now) }
 {
-    if let Some(place) = find_in_map(conducting, name) {
-        return Some(&conducting[place.start..place.start + place.count]);
+    if let Some(place) = blocks.conducting.find(name) {
+        return Some(place.of(blocks.conducting.bytes));
     }
-    let place = find_in_map(via, name)?;
-    Some(&via[place.start..place.start + place.count])
+    let place = blocks.via.find(name)?;
+    Some(place.of(blocks.via.bytes))
 }
 
-// The plan for a logical name. For a caller that has checked the six blocks.
+// The plan for a logical name.
 #[tactic(auto, unfolding(crate::specs::Plans::plan_of_name))]
-pub fn plan_of_name(
-    names: &[u8],
-    conducting: &[u8],
-    via: &[u8],
-    conductors: &[u8],
-    diffusions: &[u8],
-    vias: &[u8],
-    name: &[u8],
-) -> Plan
-    requires { spec.Sound (spec.the_blocks names.now conducting.now via.now conductors.now diffusions.now vias.now) }
-    ensures { result ≡ spec.plan_of_name (spec.the_blocks names.now conducting.now via.now conductors.now diffusions.now vias.now) name.now }
+pub fn plan_of_name(blocks: SoundBlocks<'_>, name: &[u8]) -> Plan
+    ensures { result ≡ spec.plan_of_name (sound_bytes blocks.entry) name.now }
 {
     if is_marker(name) {
         return Err(Skip::Marker);
     }
-    let physical = physical_of(conducting, via, name).ok_or(Skip::Unmatched)?;
-    plan_of_physical(
-        names, conducting, via, conductors, diffusions, vias, physical,
-    )
+    let physical = physical_of(blocks, name).ok_or(Skip::Unmatched)?;
+    plan_of_physical(blocks, physical)
 }

@@ -1,90 +1,49 @@
-// The range of heights of a physical name. The blocks have been checked.
-ghost use Rattle.std.specs.Prelude.{◌≡◌, true, option_map, IfSome};
-ghost use Rattle.openrdson_core.specs.Blocks.{stack_ok, vias_ok};
+// The range of heights of a physical name.
+ghost use Rattle.std.specs.Prelude.{◌≡◌, option_map, IfSome};
 ghost use Rattle.openrdson_core.specs.Maps.{spanned, span_within};
 ghost use Rattle.geometry.specs.Ranges as spec;
 
-use openrdson_core::{Figures, Span, find_stack_layer, find_via};
+use openrdson_core::{Heights, SoundBlocks, Span};
 
-// A bottom and a top.
-#[derive(Clone, Copy, Debug, PartialEq)]
-pub struct ZRange {
-    pub bottom: f64,
-    pub top: f64,
-}
-
-// Height to height + thickness, where both are present.
-fn from_to(figures: Figures) -> Option<ZRange>
-    ensures { result ≡ spec.from_to figures.height figures.thickness }
+// The range of the conductor of a name, else of the diffusion: height to height + thickness, where both are present. A conductor with a
+// missing figure ends the search.
+#[tactic(auto, unfolding(crate::specs::Ranges::layer_range, crate::specs::Ranges::diffusion_range))]
+fn layer_range(blocks: SoundBlocks<'_>, name: &[u8]) -> Option<Heights>
+    ensures { result ≡ spec.layer_range blocks.entry.conductors.bytes.now blocks.entry.diffusions.bytes.now name.now }
 {
+    let figures = match blocks.conductors.find(name) {
+        Some(figures) => figures,
+        None => blocks.diffusions.find(name)?,
+    };
     let bottom = figures.height?;
     let thickness = figures.thickness?;
-    Some(ZRange {
+    Some(Heights {
         bottom,
         top: bottom + thickness,
     })
 }
 
-// The range of the diffusion of a name.
-#[tactic(auto, unfolding(crate::specs::Ranges::diffusion_range))]
-fn diffusion_range(diffusions: &[u8], name: &[u8]) -> Option<ZRange>
-    requires { stack_ok diffusions.now ≡ true }
-    ensures { result ≡ spec.diffusion_range diffusions.now name.now }
-{
-    from_to(find_stack_layer(diffusions, name)?)
-}
-
-// The range of the conductor of a name, else of the diffusion. A conductor with a missing figure ends the search.
-#[tactic(auto, unfolding(crate::specs::Ranges::layer_range))]
-fn layer_range(conductors: &[u8], diffusions: &[u8], name: &[u8]) -> Option<ZRange>
-    requires conductors { stack_ok conductors.now ≡ true }
-    requires diffusions { stack_ok diffusions.now ≡ true }
-    ensures { result ≡ spec.layer_range conductors.now diffusions.now name.now }
-{
-    match find_stack_layer(conductors, name) {
-        Some(figures) => from_to(figures),
-        None => diffusion_range(diffusions, name),
-    }
-}
-
 // The range of the layer at an end of a via.
-fn end_range(conductors: &[u8], diffusions: &[u8], vias: &[u8], end: Option<Span>) -> Option<ZRange>
-    requires conductors { stack_ok conductors.now ≡ true }
-    requires diffusions { stack_ok diffusions.now ≡ true }
-    requires within { IfSome end (span_within vias.now) }
-    ensures { result ≡ spec.end_range conductors.now diffusions.now (option_map (spanned vias.now) end) }
+fn end_range(blocks: SoundBlocks<'_>, end: Option<Span>) -> Option<Heights>
+    requires { IfSome end (span_within blocks.vias.bytes.now) }
+    ensures { result ≡ spec.end_range blocks.entry.conductors.bytes.now blocks.entry.diffusions.bytes.now (option_map (spanned blocks.entry.vias.bytes.now) end) }
 {
-    let span = end?;
-    let name = &vias[span.start..span.start + span.count];
-    layer_range(conductors, diffusions, name)
+    let name = end?.of(blocks.vias.bytes);
+    layer_range(blocks, name)
 }
 
-// Top of the bottom layer to bottom of the top layer.
-fn between(bottom: Option<ZRange>, top: Option<ZRange>) -> Option<ZRange>
-    ensures { result ≡ spec.between bottom top }
+// The range of a physical name. Where it is a via's: top of the bottom layer to bottom of the top layer.
+#[tactic(auto, unfolding(crate::specs::Ranges::stack_range))]
+pub fn stack_range(blocks: SoundBlocks<'_>, name: &[u8]) -> Option<Heights>
+    ensures { result ≡ spec.stack_range blocks.entry.conductors.bytes.now blocks.entry.diffusions.bytes.now blocks.entry.vias.bytes.now name.now }
 {
-    let low = bottom?;
-    let high = top?;
-    Some(ZRange {
+    let Some(layers) = blocks.vias.find(name) else {
+        return layer_range(blocks, name);
+    };
+    let low = end_range(blocks, layers.bottom)?;
+    let high = end_range(blocks, layers.top)?;
+    Some(Heights {
         bottom: low.top,
         top: high.bottom,
     })
-}
-
-// The range of a physical name: by the via rule where it is a via's. For a caller that has checked the three blocks.
-#[tactic(auto, unfolding(crate::specs::Ranges::stack_range))]
-pub fn stack_range(conductors: &[u8], diffusions: &[u8], vias: &[u8], name: &[u8]) -> Option<ZRange>
-    requires conductors { stack_ok conductors.now ≡ true }
-    requires diffusions { stack_ok diffusions.now ≡ true }
-    requires vias { vias_ok vias.now ≡ true }
-    ensures { result ≡ spec.stack_range conductors.now diffusions.now vias.now name.now }
-{
-    match find_via(vias, name) {
-        Some(layers) => {
-            let low = end_range(conductors, diffusions, vias, layers.bottom);
-            let high = end_range(conductors, diffusions, vias, layers.top);
-            between(low, high)
-        }
-        None => layer_range(conductors, diffusions, name),
-    }
 }

@@ -2,14 +2,13 @@
 use mathlib.Core.Path.{◌≡◌, refl, sym, ap, ◌∙◌}
 use mathlib.Core.Bool.{Bool}
 use mathlib.Core.List.{List, [], ◌∷◌, ◌++◌, append_assoc}
-use Rattle.std.specs.Prelude.{Option, Some, None}
+use Rattle.std.specs.Prelude.{Some, None}
 use Prim.Native.Nat.{ℕ, suc, ◌+◌, ◌-◌, ◌*◌, ◌≤◌, ◌<◌}
 use native.Mathlib.Nat.{add-zero}
-use native.Mathlib.Numerals.{add-one}
 use native.Mathlib.Omega.{arith}
-use lib.ListN.{length, get_or, take, drop, set, length-append, length-take, length-drop, take-append-drop, get_or-append}
+use lib.ListN.{length, get_or, take, drop, length-append, length-take, length-drop}
 use Rattle.std.specs.Prelude.{Some, None}
-use lib.Seq.{length-take-le, take_at, take-suc, drop-cons, drop_at, append_snoc, set_at, get_or-take, get_or-drop}
+use lib.Seq.{length-take-le, take_at, drop_at, append_snoc, get_or-drop}
 use Rattle.std.specs.List.{copy_within}
 use Rattle.lists.specs.Answer.{Answer, refused, given, map_answer}
 use Rattle.lists.specs.Lists.{Below, first, next_of, prev_of, put}

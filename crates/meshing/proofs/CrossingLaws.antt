@@ -2,17 +2,17 @@
 use mathlib.Core.Path.{◌≡◌, refl, sym, ap, ◌∙◌, subst}
 use mathlib.Core.Bool.{Bool, true, false, not, ◌&&◌, xor}
 use mathlib.Core.List.{List, [], ◌++◌, map}
-use Prim.Native.Nat.{ℕ, ◌+◌, ◌<◌, ◌≤◌}
+use Prim.Native.Nat.{ℕ, ◌+◌, ◌-◌, ◌<◌, ◌≤◌}
 use native.Mathlib.Omega.{arith}
 use lib.ListN.{length, get_or, take, drop, length-append}
-use lib.Seq.{length-take-le, take-length, get_or-take}
+use lib.Seq.{length-take-le, take-length, take-append-add, drop_at, get_or-take}
 use lib.Ieee.{Float, nan, inf, le}
 use Rattle.lists.specs.Answer.{given}
 use Rattle.lists.specs.Lists.{elems, passing, all_of, Below, next_of}
 use Rattle.lists.specs.Counts.{SameEntries}
 use Rattle.lists.specs.Sorts.{slot, insert_at, sort_by, sort_onto, or_number}
 use Rattle.lists.proofs.Fills.{elems_length}
-use Rattle.lists.proofs.Parts.{rest_at, rest_more}
+use Rattle.lists.proofs.Parts.{rest_at, rest_more, rest_back_is, rest_back_long}
 use Rattle.lists.proofs.Passing.{all_of_more, all_of_fails, all_of_same, below_same, below_passing_elems, passing_most, passing_next, passing_none, same_long, all_of_at}
 use Rattle.lists.proofs.Places.{next_inside, next_last, next_below}
 use Rattle.lists.proofs.Sorts.{slot_same, key_at_lem, keys_more, sort_turn, sort_end, sort_tally, rising_passing}
@@ -136,6 +136,23 @@ module _ (ys : List Float) (below y : Float) (l : List ℕ) (same : SameEntries 
 
   pub next_spanning : (all : List ℕ) → all ≡ take kept edges ++ passing (new_at ys below y) (elems (length ys) (λ e. e)) → SameEntries all (spanning ys y)
   next_spanning all e test = rw e (together test)
+
+-- l with new edges in l[kept..]: those kept, then the new ones
+module _ (l new : List ℕ) (kept : ℕ) (h : kept ≤ length l) (e : length new ≡ length (drop kept l)) where
+  abbrev pub with_new : List ℕ
+  with_new = take kept l ++ (new ++ drop (length l - kept) (drop kept l))
+
+  pub new_long : length with_new ≡ length l
+  new_long = rest_back_long l kept new h e
+
+  pub new_front : (added : ℕ) → take (kept + added) with_new ≡ take kept l ++ take added new
+  new_front added =
+      ap (take (kept + added)) (rest_back_is l kept new h e) ∙ ap (λ (k : ℕ). take (k + added) (take kept l ++ new)) (sym (length-take-le kept l h)) ∙ take-append-add (take kept l) new added
+
+  pub new_lent : (added : ℕ) → take (kept + added - kept) (drop kept with_new) ≡ take added new
+  new_lent added =
+      let n : kept + added - kept ≡ added = omega arith in
+      ap (λ (k : ℕ). take k (drop kept with_new)) n ∙ ap (λ (x : List ℕ). take added (drop kept x)) (rest_back_is l kept new h e) ∙ ap (take added) (drop_at (take kept l) new kept (length-take-le kept l h))
 
 -- below the first band: no edge of a checked ring spans minus infinity
 module _ (xs ys : List Float) (checked : ring_fault xs ys ≡ given tt) where

@@ -12,7 +12,8 @@ use Rattle.lists.proofs.Places.{next_inside, next_last}
 use Rattle.lists.proofs.Passing.{passing_more, passing_skips}
 use Rattle.lists.proofs.Sorts.{sort_length}
 use Rattle.binary64.specs.Numbers.{at}
-use Rattle.meshing.specs.Levels.{Band, middle}
+use Rattle.meshing.specs.declared.levels.Band.{Band}
+use Rattle.meshing.specs.Levels.{middle}
 use Rattle.meshing.specs.Crossings.{spans, spanning, left_of, crossings}
 use Rattle.meshing.specs.Scanline.{is_even, even_band}
 

@@ -1,18 +1,17 @@
 -- A model: what a row of the region list adds, and a turn of the loop over the regions. Assumes nothing.
-use Prim.Native.Nat.{ℕ, ◌+◌, ◌<◌, ◌≤◌}
+use Prim.Native.Nat.{ℕ, ◌+◌, ◌<◌}
 use mathlib.Core.Path.{◌≡◌, refl, sym, ap, ◌∙◌}
 use mathlib.Core.Bool.{Bool, true, false, ◌&&◌}
 use mathlib.Core.List.{List, [], ◌∷◌, ◌++◌}
 use native.Mathlib.Omega.{arith}
 use lib.Dec.{eqb, leb}
 use lib.ListN.{length, set, length-append}
-use borrow.Author.Tests.{leb-true, eqb-true}
+use borrow.Author.Tests.{eqb-true}
 use lib.Ieee.{Float}
 use Rattle.std.specs.Prelude.{Result, Ok, Err}
 use Rattle.std.specs.Result.{result_unwrap_or}
 use Rattle.lists.specs.Answer.{Answer, refused, given, unless, and_then, map_answer, left, status}
 use Rattle.lists.specs.Lists.{put, fold_below, all_of}
-use Rattle.lists.proofs.Answers.{passed}
 use Rattle.lists.proofs.Scans.{both}
 use Rattle.lists.proofs.Folds.{fold_more}
 use Rattle.lists.proofs.Fills.{put_none, put_set}
@@ -24,11 +23,11 @@ use Rattle.openrdson_core.specs.Answers.{answer}
 use Rattle.openrdson_core.specs.declared.mesh.Counts.{Counts}
 use Rattle.openrdson_core.specs.declared.refusals.Refusal.{Refusal}
 use Rattle.openrdson_core.specs.declared.solids.SolidRegion.{SolidRegion}
-use Rattle.geometry.specs.Regions.{Regions, even_regions, Even, region_at}
-use Rattle.geometry.proofs.RegionLaws.{even_of}
+use Rattle.geometry.specs.Regions.{Regions, even_regions, region_at}
 use Rattle.meshing.specs.declared.cells.MeshConfig.{MeshConfig}
 use Rattle.meshing.specs.Added.{grown, Adds}
 use Rattle.meshing.specs.Regions.{mesh_region}
+use Rattle.meshing.specs.Models as spec
 use Rattle.meshing.specs.Models.{Overrides, the_overrides, no_overrides, even_overrides, named, config_for, Run, row_part, tried, run_to, mesh_model, model_judged, RunAs, ModelAs}
 
 -- the counts that a call gives, or those before it
@@ -41,18 +40,6 @@ pub all_decides : {A : Type 0} (test : A → Bool) (l : List A) (other : A) (r :
     → MatchBool r (AllWithin (λ x. test x ≡ true) l 0 (length l)) ((k : ℕ) × (k < length l) × HoldsAt (λ x. test x ≡ false) l k) → r ≡ all_of test l
 all_decides test l other true h = sym (all_of_from test l other (λ i g. h i other (omega arith) g))
 all_decides test l other false h = sym (all_of_fails test l h.0 other h.1 (h.2 other))
-
--- lists as long as those
-pub record Kept (m m' : Mesh) : Type 0 where
-  pub xs : length m'.xs ≡ length m.xs
-  pub ys : length m'.ys ≡ length m.ys
-  pub zs : length m'.zs ≡ length m.zs
-  pub kinds : length m'.kinds ≡ length m.kinds
-  pub places : length m'.places ≡ length m.places
-  pub regions : length m'.regions ≡ length m.regions
-
-pub kept_same : (m : Mesh) → Kept m m
-kept_same m = record { xs = refl; ys = refl; zs = refl; kinds = refl; places = refl; regions = refl }
 
 module _ (r : Regions) (px py : List Float) (o : Overrides) (default : MeshConfig) where
   -- a row that is turned down, and one that is a region
@@ -108,36 +95,10 @@ module _ (r : Regions) (px py : List Float) (o : Overrides) (default : MeshConfi
 
 -- ---- the refusals
 
--- by what is known of the lists
-module _ (are_regions_even are_points_even are_overrides_even is_mesh_parallel : Bool) (regions points overrides : ℕ) (are_counts_in are_overrides_named : Bool) (diagnostics : ℕ) where
-  abbrev even : Bool
-  even = are_regions_even && are_points_even && are_overrides_even && is_mesh_parallel
-
-  abbrev short : Bool
-  short = leb regions 4096 && leb points 2097152 && leb overrides 4096
-
-  abbrev judged : Answer (Unit {0})
-  judged = model_judged are_regions_even are_points_even are_overrides_even is_mesh_parallel regions points overrides are_counts_in are_overrides_named diagnostics
-
-  -- what a job that is meshed has
-  pub record JobFine : Type 0 where
-    pub regions_even : are_regions_even ≡ true
-    pub overrides_even : are_overrides_even ≡ true
-    pub few : leb regions 4096 ≡ true
-    pub room : leb regions diagnostics ≡ true
-
-  pub job_fine : judged ≡ given tt → JobFine
-  unfolding model_judged
-  job_fine e =
-      let p = passed even 16 _ e in
-      let q = passed short 2 _ p.1 in
-      let s = passed (are_counts_in && are_overrides_named) 15 _ q.1 in
-      let t = passed (leb regions diagnostics) 12 _ s.1 in
-      let x = both (are_regions_even && are_points_even && are_overrides_even) is_mesh_parallel p.0 in
-      let y = both (are_regions_even && are_points_even) are_overrides_even x.0 in
-      let z = both are_regions_even are_points_even y.0 in
-      let u = both (leb regions 4096 && leb points 2097152) (leb overrides 4096) q.0 in
-      record { regions_even = z.0; overrides_even = y.1; few = (both (leb regions 4096) (leb points 2097152) u.0).0; room = t.0 }
+pub even_lists : (o : Overrides) → even_overrides o ≡ true → (length o.laterals ≡ length o.materials) × (length o.verticals ≡ length o.materials)
+even_lists o e =
+    let b = both (eqb (length o.laterals) (length o.materials)) (eqb (length o.verticals) (length o.materials)) e in
+    (eqb-true (length o.laterals) (length o.materials) b.0, eqb-true (length o.verticals) (length o.materials) b.1)
 
 -- row by row, and kind by kind
 chain : {A : Type 0} (a b c d e f g h i j : Bool) (x : A)
@@ -157,8 +118,7 @@ chain true true true true true true true true true true x = refl
 
 module _ (r : Regions) (px py : List Float) (o : Overrides) (default : MeshConfig) (c : Counts) (m : Mesh) (d : ℕ) where
   abbrev pub job_judged : Answer (Unit {0})
-  job_judged =
-      model_judged (even_regions r) (eqb (length px) (length py)) (even_overrides o) (parallel m) (length r.kinds) (length px) (length o.materials) (within c m) (all_of named o.materials) d
+  job_judged = spec.job_judged r px py o c m d
 
   pub model_is : mesh_model r px py o default c m d ≡ and_then job_judged (λ _. given (run_to r px py o default c m (length r.kinds)))
   unfolding mesh_model model_judged
@@ -174,32 +134,6 @@ module _ (r : Regions) (px py : List Float) (o : Overrides) (default : MeshConfi
   pub model_done : {ds ds' : List ℕ} {c' : Counts} {m' : Mesh} → given tt ≡ job_judged → RunAs (run_to r px py o default c m (length r.kinds)) c' m' ds ds'
       → ModelAs (mesh_model r px py o default c m d) m ds (Ok c') m' ds'
   model_done e s = rw (model_is, sym e) (record { answer = ap given s.counts; mesh = s.mesh; diagnostics = s.diagnostics })
-
-  -- what the loop over the regions asks
-  pub record RowsFine : Type 0 where
-    pub rows : Even r
-    pub few : length r.kinds ≤ 4096
-    pub room : length r.kinds ≤ d
-    pub laterals : length o.laterals ≡ length o.materials
-    pub verticals : length o.verticals ≡ length o.materials
-
-  pub rows_fine : job_judged ≡ given tt → RowsFine
-  rows_fine e =
-      let f =
-      job_fine (even_regions r) (eqb (length px) (length py)) (even_overrides o) (parallel m) (length r.kinds) (length px) (length o.materials) (within c m) (all_of named o.materials) d e in
-      let b = both (eqb (length o.laterals) (length o.materials)) (eqb (length o.verticals) (length o.materials)) f.overrides_even in
-      record {
-        rows = even_of r f.regions_even;
-        few = leb-true (length r.kinds) 4096 f.few;
-        room = leb-true (length r.kinds) d f.room;
-        laterals = eqb-true (length o.laterals) (length o.materials) b.0;
-        verticals = eqb-true (length o.verticals) (length o.materials) b.1;
-      }
-
--- the same judgement from equal tests
-pub same_job : {a a' d d' e e' f f' : Bool} (b c : Bool) (n p k q : ℕ) → a ≡ a' → d ≡ d' → e ≡ e' → f ≡ f'
-    → model_judged a b c d n p k e f q ≡ model_judged a' b c d' n p k e' f' q
-same_job b c n p k q u v w x = rw (u, v, w, x)
 
 -- ---- `mesh_model` is the options call with no override: by their contracts both answer and leave the same
 

@@ -2,31 +2,31 @@
 use mathlib.Core.Path.{◌≡◌, refl, sym, ap, ◌∙◌}
 use mathlib.Core.Bool.{Bool, true, false}
 use mathlib.Core.List.{List, [], ◌++◌}
-use Prim.Native.Nat.{ℕ, ◌+◌, ◌-◌, ◌*◌, ◌/◌, ◌≤◌, ◌<◌}
+use Prim.Native.Nat.{ℕ, ◌+◌, ◌*◌, ◌/◌, ◌≤◌, ◌<◌}
 use native.Mathlib.Omega.{arith}
 use lib.Dec.{eqb, leb}
-use lib.ListN.{length, get_or, take, drop, length-append}
+use lib.ListN.{length, get_or, length-append}
 use lib.Ieee.{Float, nan, lt}
 use Rattle.std.specs.Prelude.{Result, Ok}
-use borrow.Author.Tests.{eq-eqb, ne_eqb, eqb-true}
+use borrow.Author.Tests.{eq-eqb, ne_eqb}
 use Rattle.std.specs.Simd.{first_chunks}
 use Rattle.lists.specs.Answer.{Answer, refused, given, unless, and_then, map_answer}
 use Rattle.lists.specs.Lists.{put, elems, joined, part, Below}
-use Rattle.lists.proofs.Answers.{passed, passed_then}
+use Rattle.lists.proofs.Answers.{refused_given}
 use Rattle.lists.proofs.Counts.{below_occurring}
 use Rattle.lists.proofs.Fills.{put_more, elems_length}
-use Rattle.lists.proofs.Parts.{part_lent}
 use Rattle.lists.proofs.Places.{below_at, gather_all}
 use Rattle.openrdson_core.specs.Bounds.{the_bbox}
 use Rattle.openrdson_core.specs.Mesh.{Mesh, the_mesh, the_counts, parallel, parallel_lengths, within, fits}
-use Rattle.openrdson_core.specs.Points.{ring_fault, of_ring}
-use Rattle.openrdson_core.specs.Solids.{points_fault, heights_in, prism_fault}
+use Rattle.openrdson_core.specs.Points.{even_points, ring_fault}
+use Rattle.openrdson_core.specs.Solids.{heights_in}
 use Rattle.openrdson_core.specs.declared.mesh.Counts.{Counts}
 use Rattle.openrdson_core.specs.declared.refusals.Refusal.{Refusal}
+use Rattle.openrdson_core.specs.declared.ring.SoundRing.{SoundRing}
 use Rattle.openrdson_core.specs.declared.solids.Solid.{Solid}
 use Rattle.openrdson_core.specs.declared.solids.Solid.TheVariants.{Box, Prism}
 use Rattle.openrdson_core.proofs.MeshLaws.{equal_lengths, room_for}
-use Rattle.openrdson_core.proofs.Rings.{fine_ring, parted}
+use Rattle.openrdson_core.proofs.Rings.{fine_ring}
 use Rattle.meshing.specs.declared.cells.MeshConfig.{MeshConfig}
 use Rattle.meshing.specs.Added.{Part, fit_part, Adds}
 use Rattle.meshing.specs.Boxes.{mesh_box}
@@ -35,12 +35,11 @@ use Rattle.meshing.specs.Triangles.{Triangle, tri, corners, triples}
 use Rattle.meshing.specs.Ears.{triangles_of}
 use Rattle.meshing.specs.Rectilinear.{is_rectilinear}
 use Rattle.meshing.specs.Scanline.{scanline_of, quads_part}
-use Rattle.meshing.specs.Prisms.{prism_places, triangles_part, ring_part, prism_part, mesh_prism, part_judged, prism_judged}
+use Rattle.meshing.specs.Prisms.{prism_places, triangles_part, ring_part, prism_part, mesh_prism, part_fault, Cleans}
 use Rattle.meshing.specs.Regions.{mesh_region}
 use Rattle.meshing.proofs.BoxWrites.{same_mesh, same_adds}
 use Rattle.meshing.proofs.Chunks.{chunk_at}
 use Rattle.meshing.proofs.Demand.{triangles_triangulation}
-use Rattle.meshing.proofs.RingLaws.{kept_below, kept_most}
 use Rattle.meshing.proofs.TriangulateLaws.{corners_length}
 use Rattle.meshing.proofs.Written.{triple_at}
 
@@ -171,8 +170,6 @@ module _ (c : Counts) (m : Mesh) (z0 z1 : Float) (xs ys : List Float) (l : List 
 -- ---- a ring that has been clipped
 
 pub record CutRing (rx ry : List Float) (l : List ℕ) : Type 0 where
-  pub even : length ry ≡ length rx
-  pub short : length rx ≤ 512
   pub whole : corners (triples l) ≡ l
   pub below : Below (length rx) l
   pub few : length l ≤ 1530
@@ -182,8 +179,6 @@ cut_ring rx ry l e (g, whole) =
     let size = fine_ring rx ry e in
     let t = triangles_triangulation rx ry (triples l) g in
     record {
-      even = sym size.even;
-      short = size.short;
       whole = whole;
       below = below_occurring (length rx) l (λ u h. t.below u (rw whole h));
       few = omega (arith, size.short, t.number, triples_many l whole);
@@ -220,73 +215,68 @@ module _ (xs ys : List Float) where
   unfolding ring_part
   ring_scanned base z0 z1 e = rw e
 
+-- a clean ring is one that it is cleaned to
+pub clean_self : (r : SoundRing) → kept r.ring.xs.now r.ring.ys.now ≡ elems (length r.ring.xs.now) (λ i. i) → Cleans r r
+clean_self r clean = record { xs = clean_xs r.ring.xs.now r.ring.ys.now clean; ys = clean_ys r.ring.xs.now r.ring.ys.now clean r.ring.even }
+
 -- what is added where there is room depends on the part alone
 pub part_adds : {a b : Answer Part} {c : Counts} {region : ℕ} {m m' : Mesh} {r : Result Counts Refusal} → a ≡ b → Adds (and_then b (fit_part c m)) c region m m' r → Adds (and_then a (fit_part c m)) c region m m' r
 part_adds {c = c} {m = m} e = same_adds (ap (λ (a : Answer Part). and_then a (fit_part c m)) (sym e))
 
 -- ---- the refusals, in order
 
--- a part that a program lends as two slices
-pub lent_ring : (px py : List Float) (start count : ℕ) → ring_fault (take (start + count - start) (drop start px)) (take (start + count - start) (drop start py)) ≡ ring_fault (part start count px) (part start count py)
-lent_ring px py start count = rw (part_lent px start count, part_lent py start count)
+-- a row that turns a call down, whatever comes after it
+pub row_refused : {A : Type 0} (b : Bool) (k : ℕ) (rest : Answer A) {n : ℕ} → refused n ≡ unless b k (given (tt {0})) → unless b k rest ≡ refused n
+row_refused true k rest e = refused_given e
+row_refused false k rest e = cc
 
--- four rows, what is against the part, and one more row, before what is decided next
-rows : {A : Type 0} (p q r s : Bool) (i j k l : ℕ) (fault : Answer (Unit {0})) (t : Bool) (n : ℕ) (rest : Answer A)
-    → unless p i (unless q j (unless r k (unless s l (and_then fault (λ _. unless t n rest)))))
-    ≡ and_then (unless p i (unless q j (unless r k (unless s l (and_then fault (λ _. unless t n (given (tt {0})))))))) (λ _. rest)
-rows false q r s i j k l fault t n rest = refl
-rows true false r s i j k l fault t n rest = refl
-rows true true false s i j k l fault t n rest = refl
-rows true true true false i j k l fault t n rest = refl
-rows true true true true i j k l (refused w) t n rest = refl
-rows true true true true i j k l (given u) false n rest = refl
-rows true true true true i j k l (given u) true n rest = refl
-
-module _ (px py : List Float) (z0 z1 : Float) (start count material : ℕ) (c : Counts) (m : Mesh) where
-  abbrev prismed : Answer (Unit {0})
-  prismed = prism_judged px py z0 z1 start count material c (length m.xs) (length m.ys) (length m.zs) (length m.kinds) (length m.places) (length m.regions)
-
-  abbrev next : Answer Part
-  next = and_then (prism_part c.nodes z0 z1 (part start count px) (part start count py)) (fit_part c m)
-
-  judged_first : mesh_prism z0 z1 start count material c px py m ≡ and_then prismed (λ _. next)
-  unfolding mesh_prism prism_judged part_judged
-  judged_first = rows (parallel m) (eqb (length px) (length py)) (within c m) (leb material 768) 16 16 15 15 (prism_fault px py z0 z1 start count) (lt z0 z1) 8 next
-
-  pub prism_refused : {n : ℕ} → prismed ≡ refused n → mesh_prism z0 z1 start count material c px py m ≡ refused n
-  prism_refused e = judged_first ∙ ap (λ (a : Answer (Unit {0})). and_then a (λ _. next)) e
-
-  pub prism_next : {qx qy : List Float} → qx ≡ part start count px → qy ≡ part start count py → prismed ≡ given tt
-      → mesh_prism z0 z1 start count material c px py m ≡ and_then (prism_part c.nodes z0 z1 qx qy) (fit_part c m)
-  prism_next p q e = rw (p, q) (judged_first ∙ ap (λ (a : Answer (Unit {0})). and_then a (λ _. next)) e)
-
--- what a prism that is judged fine has
-pub record PrismFine (px py : List Float) (start count : ℕ) (c : Counts) (m : Mesh) : Type 0 where
-  pub lists : parallel m ≡ true
-  pub counts : within c m ≡ true
-  pub even : length px ≡ length py
-  pub inside : start + count ≤ length px
-  pub ring : ring_fault (part start count px) (part start count py) ≡ given tt
+-- what is against the part and the heights, and one more row, before what is decided next
+rows : {A : Type 0} (i s h t : Bool) (fault : Answer (Unit {0})) (rest : Answer A)
+    → and_then (and_then (and_then (unless i 15 (unless s 2 (given (tt {0})))) (λ _. and_then fault (λ _. given (tt {0})))) (λ _. unless h 1 (given (tt {0})))) (λ _. unless t 8 rest)
+    ≡ and_then (unless i 15 (unless s 2 (and_then fault (λ _. unless h 1 (unless t 8 (given (tt {0}))))))) (λ _. rest)
+rows false s h t fault rest = refl
+rows true false h t fault rest = refl
+rows true true h t (refused n) rest = refl
+rows true true false t (given u) rest = refl
+rows true true true false (given u) rest = refl
+rows true true true true (given u) rest = refl
 
 module _ (px py : List Float) (z0 z1 : Float) (start count material : ℕ) (c : Counts) (m : Mesh) where
-  pub prism_fine : prism_judged px py z0 z1 start count material c (length m.xs) (length m.ys) (length m.zs) (length m.kinds) (length m.places) (length m.regions) ≡ given tt
-      → PrismFine px py start count c m
-  unfolding prism_judged part_judged
-  prism_fine e =
-      let even = passed (parallel m) 16 _ e in
-      let equal = passed (eqb (length px) (length py)) 16 _ even.1 in
-      let counted = passed (within c m) 15 _ equal.1 in
-      let known = passed (leb material 768) 15 _ counted.1 in
-      let fault = passed_then (prism_fault px py z0 z1 start count) (λ _. unless (lt z0 z1) 8 (given tt)) known.1 in
-      let points = passed_then (points_fault (length px) (length py) start count) (λ _. of_ring (part start count px) (part start count py) (tt {0})) (passed_then _ (λ _. unless (heights_in z0 z1) 1 (given tt)) fault.1).1 in
-      let ring = passed_then (ring_fault (part start count px) (part start count py)) (λ _. given (tt {0})) points.2 in
-      record {
-        lists = even.0;
-        counts = counted.0;
-        even = eqb-true _ _ equal.0;
-        inside = (parted (length px) (length py) start count points.1).within;
-        ring = ring.1;
-      }
+  abbrev prism : Answer Part
+  prism = mesh_prism z0 z1 start count material c px py m
+
+  pub prism_lists : parallel m ≡ false → prism ≡ refused 16
+  unfolding mesh_prism
+  prism_lists e = rw e
+
+  module _ (p : parallel m ≡ true) where
+    pub prism_points : {n : ℕ} → refused n ≡ even_points (length px) (length py) → prism ≡ refused n
+    unfolding mesh_prism
+    prism_points e = rw p (row_refused (eqb (length px) (length py)) 16 _ e)
+
+    module _ (even : length px ≡ length py) where
+      pub prism_counts : within c m ≡ false → prism ≡ refused 15
+      unfolding mesh_prism
+      prism_counts e = rw (p, eq-eqb (length px) (length py) even, e)
+
+      module _ (w : within c m ≡ true) where
+        pub prism_material : leb material 768 ≡ false → prism ≡ refused 15
+        unfolding mesh_prism
+        prism_material e = rw (p, eq-eqb (length px) (length py) even, w, e)
+
+        module _ (k : leb material 768 ≡ true) where
+          abbrev next : Answer Part
+          next = and_then (prism_part c.nodes z0 z1 (part start count px) (part start count py)) (fit_part c m)
+
+          judged : prism ≡ and_then (part_fault px py z0 z1 start count) (λ _. next)
+          unfolding mesh_prism part_fault
+          judged = rw (p, eq-eqb (length px) (length py) even, w, k) (rows (leb (start + count) (length px)) (leb (length px) 2097152) (heights_in z0 z1) (lt z0 z1) (ring_fault (part start count px) (part start count py)) next)
+
+          pub prism_part_out : {n : ℕ} → refused n ≡ part_fault px py z0 z1 start count → prism ≡ refused n
+          prism_part_out e = rw (judged, ← e)
+
+          pub prism_next : given tt ≡ part_fault px py z0 z1 start count → prism ≡ next
+          prism_next e = rw (judged, ← e)
 
 -- ---- a region, by its solid
 

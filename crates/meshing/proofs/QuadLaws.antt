@@ -17,7 +17,7 @@ use Rattle.lists.proofs.Passing.{all_of_append}
 use Rattle.lists.proofs.Places.{below_at}
 use Rattle.meshing.specs.declared.quads.Quad.{Quad}
 use Rattle.meshing.specs.declared.quads.Tally.{Tally}
-use Rattle.meshing.specs.Levels.{Band}
+use Rattle.meshing.specs.declared.levels.Band.{Band}
 use Rattle.meshing.specs.Quads.{is_flat, quad_in, quad_of, quads_between}
 use Rattle.meshing.specs.Scanline.{quad_xs, quad_ys, Tallied}
 use Rattle.meshing.proofs.Chunks.{chunk_at}

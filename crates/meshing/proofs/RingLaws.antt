@@ -8,13 +8,13 @@ use native.Mathlib.Omega.{arith}
 use lib.Dec.{ltb}
 use lib.ListN.{length, get_or, take, set, length-append, length-set, get_or-append}
 use lib.Seq.{length-take-le, take-take, take-suc-set, get_or-append-add}
-use lib.Ieee.{Float, nan}
+use lib.Ieee.{Float}
 use Rattle.std.specs.Prelude.{Result}
 use borrow.Author.Tests.{lt-ltb, le-ltb, le-leb, lt-leb, eq-eqb, ne_eqb}
 use Rattle.lists.specs.Answer.{refused, given}
 use Rattle.lists.specs.Lists.{fold_below, put, runs, elems, Below}
-use Rattle.lists.proofs.Fills.{elems_length, elems_suc, elems_at, put_start}
-use Rattle.lists.proofs.Places.{below_more, below_take, gather_length}
+use Rattle.lists.proofs.Fills.{elems_length, elems_suc, elems_at}
+use Rattle.lists.proofs.Places.{below_more, below_take}
 use Rattle.openrdson_core.specs.Points.{point_at, ring_fault}
 use Rattle.openrdson_core.specs.Answers.{answer}
 use Rattle.openrdson_core.specs.declared.points.Point.{Point}
@@ -264,11 +264,6 @@ module _ (xs ys : List Float) where
         within = omega (arith, k.few);
       }
 
-  -- what was gathered at the places kept stands over the start of a list
-  pub kept_start : (places : List ℕ) (n : ℕ) (l old new : List Float) → n ≤ length places → take n places ≡ kept xs ys → new ≡ put old 0 (gathered l (take n places)) → take n new ≡ gathered l (kept xs ys)
-  kept_start places n l old new inside is e =
-      put_start old (gathered l (take n places)) e (sym (length-take-le n places inside) ∙ sym (gather_length nan l (take n places))) ∙ ap (gathered l) is
-
   -- ---- the call
 
   module _ (m n : ℕ) where
@@ -280,17 +275,14 @@ module _ (xs ys : List Float) where
     unfolding dedup_ring
     dedup_refused w h e = rw (eq-eqb m n h, ← e)
 
-    module _ (h : m ≡ n) (fine : given tt ≡ ring_fault xs ys) (places : List ℕ) (count : ℕ) (k : KeptIn xs ys places count) (inside : count ≤ length places) where
-      kept_long : length (kept xs ys) ≡ count
-      kept_long = ap length (sym k.is) ∙ length-take-le count places inside
-
-      pub dedup_short : m < count → dedup_ring xs ys m n ≡ refused 12
+    module _ (h : m ≡ n) (fine : given tt ≡ ring_fault xs ys) (places : List ℕ) (are : places ≡ kept xs ys) where
+      pub dedup_short : m < length places → dedup_ring xs ys m n ≡ refused 12
       unfolding dedup_ring
-      dedup_short l = rw (eq-eqb m n h, ← fine, kept_long, lt-leb count m l)
+      dedup_short l = rw (eq-eqb m n h, ← fine, ← are, lt-leb (length places) m l)
 
-      pub dedup_fits : count ≤ m → dedup_ring xs ys m n ≡ given (take count places)
+      pub dedup_fits : length places ≤ m → dedup_ring xs ys m n ≡ given places
       unfolding dedup_ring
-      dedup_fits l = rw (eq-eqb m n h, ← fine, kept_long, le-leb count m l, k.is)
+      dedup_fits l = rw (eq-eqb m n h, ← fine, ← are, le-leb (length places) m l)
 
 -- ---- the call's contract
 

@@ -9,7 +9,7 @@ use lib.Dec.{leb}
 use lib.ListN.{length, take, drop, drop_of_length-le}
 use lib.Seq.{drop-cons}
 use lib.Ieee.{Float, nan, inf}
-use Rattle.std.specs.Prelude.{Result, Ok, Option, Some, None, IsSome}
+use Rattle.std.specs.Prelude.{Ok, Option, Some, None, IsSome}
 use borrow.Author.Tests.{le-leb, lt-leb}
 use Rattle.lists.specs.Answer.{Answer, refused, given, and_then, map_answer}
 use Rattle.lists.specs.Counts.{tally, SameEntries}
@@ -23,22 +23,27 @@ use Rattle.binary64.specs.Numbers.{at}
 use Rattle.openrdson_core.specs.Points.{ring_fault}
 use Rattle.openrdson_core.specs.Mesh.{Mesh, the_mesh, the_counts, unused, kind_number, parallel_lengths, fits}
 use Rattle.openrdson_core.specs.declared.mesh.Counts.{Counts}
-use Rattle.openrdson_core.specs.declared.refusals.Refusal.{Refusal}
-use Rattle.openrdson_core.specs.Answers.{answer}
 use Rattle.openrdson_core.specs.declared.mesh.ElementType.TheVariants.{Prism}
+use Rattle.openrdson_core.specs.declared.ring.SoundRing.{SoundRing}
 use Rattle.openrdson_core.proofs.Rings.{fine_ring}
 use Rattle.openrdson_core.proofs.MeshLaws.{equal_lengths, room_for}
 use Rattle.meshing.specs.declared.quads.Quad.{Quad}
 use Rattle.meshing.specs.declared.quads.Tally.{Tally}
 use Rattle.meshing.specs.Added.{Part, Adds, fit_part}
-use Rattle.meshing.specs.Levels.{Band, the_band, levels, bands_from, bands_of, middle}
+use Rattle.meshing.specs.declared.levels.Band.{Band}
+use Rattle.meshing.specs.Levels.{the_band, levels, bands_from, bands_of, middle}
 use Rattle.meshing.specs.Crossings.{spanning, left_of, crossings, crosses_in, CrossedAs}
 use Rattle.meshing.specs.Quads.{quad_in, quads_between, band_quads, quads_of}
 use Rattle.meshing.specs.Scanline.{even_band, band_in, bands_in, scanline_of, quad_xs, quad_ys, quad_zs, quad_places, quads_part, Tallied, BandsAs}
-use Rattle.meshing.proofs.BoxWrites.{same_adds, refused_adds}
+use Rattle.meshing.proofs.BoxWrites.{same_adds}
 use Rattle.meshing.proofs.CrossingLaws.{spanning_most, spanning_below, spanning_none, crossings_entries}
 use Rattle.meshing.proofs.Even.{bands_even}
+use Rattle.meshing.proofs.TriangulateLaws.{sound_fault}
 use Rattle.meshing.proofs.QuadLaws.{pairs_most, Counted, count_start, count_more, count_end, Sofar, sofar_start, sofar_room, sofar_more, sofar_end, eight_xs}
+
+-- nothing is against a sound ring
+pub sound_ring : (r : SoundRing) → ring_fault r.ring.xs.now r.ring.ys.now ≡ given tt
+sound_ring r = sound_fault r.ring.xs.now r.ring.ys.now r.ring.even r.ring.short r.in_range
 
 -- ---- the bands from level k on
 
@@ -272,18 +277,6 @@ decided xs ys {n} e =
       in_range = range.0;
     }
 
--- a refusal is passed on
-pub scan_refused : (xs ys : List Float) {k : ℕ} → refused k ≡ map_answer length (scanline_of xs ys) → scanline_of xs ys ≡ refused k
-scan_refused xs ys {k} e = at (scanline_of xs ys) e
-  where
-    at : (a : Answer (List Quad)) → refused k ≡ map_answer length a → a ≡ refused k
-    at (refused n) f = sym (ap same f)
-      where
-        same : Answer ℕ → Answer (List Quad)
-        same (refused n) = refused n
-        same (given n) = refused 0
-    at (given qs) f = refused_given f
-
 -- a band has no more quads than the ring has points, and there are fewer bands than levels
 band_most : (xs ys : List Float) (b : Band) → length (band_quads xs ys b) ≤ length ys
 unfolding band_quads crossings
@@ -336,31 +329,25 @@ quad_room c n xs ys zs kinds places regions e f g =
       elements_regions = omega (arith, elements.1, even.same_regions);
     }
 
+-- the quads of the bands between the levels
+pub drawn : (xs ys : List Float) {l : List Float} → l ≡ levels ys → joined (band_quads xs ys) (bands_of l) ≡ quads_of xs ys
+unfolding quads_of
+drawn xs ys = ap (λ (k : List Float). joined (band_quads xs ys) (bands_of k))
+
 -- what is asked of the ring to write its quads: its bands are in range, and there is room for their nodes
 module _ (xs ys : List Float) {l : List Float} (is : l ≡ levels ys) {n : ℕ} (d : Decided xs ys n) where
   pub bands_fine : bands_in xs ys (bands_of l) ≡ true
   bands_fine = ap (λ (k : List Float). bands_in xs ys (bands_of k)) is ∙ d.in_range
 
-  abbrev drawn : List Quad
-  drawn = joined (band_quads xs ys) (bands_of l)
-
-  pub bands_quads : joined (band_quads xs ys) (bands_of l) ≡ quads_of xs ys
-  unfolding quads_of
-  bands_quads = ap (λ (k : List Float). joined (band_quads xs ys) (bands_of k)) is
-
   pub quads_few : ring_fault xs ys ≡ given tt → length l ≤ 512 → n ≤ 262144
   quads_few checked few = let ring = fine_ring xs ys checked in omega (arith, quads_most xs ys (omega (arith, ring.even, ring.short)) (omega (arith, ap length is, few)), d.count)
 
-  pub bands_room : (p len : ℕ) → p + 8 * n ≤ len → p + length (joined quad_xs (joined (band_quads xs ys) (bands_of l))) ≤ len
-  bands_room p len h = omega (arith, h, eight_xs drawn, ap length bands_quads, d.count)
+pub bands_room : (xs ys : List Float) {n : ℕ} → Decided xs ys n → (p len : ℕ) → p + 8 * n ≤ len → p + length (joined quad_xs (quads_of xs ys)) ≤ len
+bands_room xs ys d p len h = omega (arith, h, eight_xs (quads_of xs ys), d.count)
 
 module _ (xs ys : List Float) (z0 z1 : Float) (c : Counts) (region : ℕ) (m : Mesh) where
   abbrev pub scanline_part : Answer Part
   scanline_part = and_then (map_answer (quads_part c.nodes z0 z1) (scanline_of xs ys)) (fit_part c m)
-
-  -- the scanline's refusal
-  pub scan_adds : {r : Result Counts Refusal} {k : ℕ} → refused k ≡ map_answer length (scanline_of xs ys) → answer r ≡ refused k → Adds scanline_part c region m m r
-  scan_adds e f = refused_adds scanline_part (ap (λ (a : Answer (List Quad)). and_then (map_answer (quads_part c.nodes z0 z1) a) (fit_part c m)) (scan_refused xs ys e)) f
 
   module _ {n : ℕ} (d : Decided xs ys n) where
     abbrev part : Part
@@ -388,18 +375,18 @@ module _ (xs ys : List Float) (z0 z1 : Float) (c : Counts) (region : ℕ) (m : M
 
     -- the quads are written
     pub quads_add : fits (8 * n) c.nodes (length m.xs) ≡ true → fits (2 * n) c.elements (length m.kinds) ≡ true
-        → {l nx ny nz : List Float} {kinds places regions : List ℕ} → l ≡ levels ys
-        → nx ≡ put m.xs c.nodes (joined quad_xs (joined (band_quads xs ys) (bands_of l)))
-        → ny ≡ put m.ys c.nodes (joined quad_ys (joined (band_quads xs ys) (bands_of l)))
+        → {nx ny nz : List Float} {kinds places regions : List ℕ}
+        → nx ≡ put m.xs c.nodes (joined quad_xs (quads_of xs ys))
+        → ny ≡ put m.ys c.nodes (joined quad_ys (quads_of xs ys))
         → nz ≡ put m.zs c.nodes (runs n (λ _. quad_zs z0 z1))
         → kinds ≡ put m.kinds c.elements (elems (2 * n) (λ _. kind_number Prism))
         → places ≡ put m.places (8 * c.elements) (runs n (λ i. quad_places (c.nodes + i * 8)))
         → regions ≡ put m.regions c.elements (elems (2 * n) (λ _. region))
         → Adds scanline_part c region m (the_mesh nx ny nz kinds places regions) (Ok (the_counts (c.nodes + 8 * n) (c.elements + 2 * n)))
     unfolding fit_part quads_part
-    quads_add e f is p q r s t u =
+    quads_add e f p q r s t u =
         same_adds {a = given part} (sym (fitted ∙ rw (nodes, e, elements, f)))
         (record {
           answer = rw (nodes, elements);
-          lists = rw (p, q, r, s, t, u, bands_quads xs ys is d, elems_length (λ _. kind_number Prism) (2 * length (quads_of xs ys)), d.count);
+          lists = rw (p, q, r, s, t, u, elems_length (λ _. kind_number Prism) (2 * length (quads_of xs ys)), d.count);
         })

@@ -25,6 +25,7 @@ use Rattle.meshing.specs.Triangles.{Triangle, tri, corners, triples, walk, Trian
 use Rattle.meshing.specs.Clipping.{clip}
 use Rattle.meshing.specs.Ears.{is_ear, is_forward, triangles_of}
 use Rattle.meshing.specs.Triangulate.{Cutting, fitted, cutting, triangulate_polygon, numbers, Leaves, Demand3}
+use Rattle.meshing.specs.declared.triangulate.Corners.{Corners}
 use Rattle.meshing.specs.declared.triangulate.Triangulation.{Triangulation as Numbers}
 use Rattle.meshing.proofs.Written.{triples_corners}
 use Rattle.openrdson_core.proofs.Rings.{fine_ring}
@@ -58,6 +59,14 @@ module _ (xs ys : List Float) (ks : List ℕ) (e : ring_fault xs ys ≡ given tt
 -- a ring cleaned is a ring
 pub kept_ring : (xs ys : List Float) {rx ry : List Float} → rx ≡ gathered xs (kept xs ys) → ry ≡ gathered ys (kept xs ys) → ring_fault xs ys ≡ given tt → ring_fault rx ry ≡ given tt
 kept_ring xs ys e f g = rw (e, f) (gathered_ring xs ys (kept xs ys) g (kept_below xs ys) (omega (arith, kept_most xs ys, (fine_ring xs ys g).short)))
+
+-- nothing is against a sound ring, and a sound ring cleaned is sound
+pub sound_fault : (xs ys : List Float) → length xs ≡ length ys → length xs ≤ 512 → points_in xs ys ≡ true → ring_fault xs ys ≡ given tt
+unfolding ring_fault
+sound_fault xs ys e s p = rw (eq-eqb (length xs) (length ys) e, le-leb (length xs) 512 s, p)
+
+pub kept_sound : (xs ys : List Float) {rx ry : List Float} → rx ≡ gathered xs (kept xs ys) → ry ≡ gathered ys (kept xs ys) → length xs ≡ length ys → length xs ≤ 512 → points_in xs ys ≡ true → points_in rx ry ≡ true
+kept_sound xs ys e f even short p = ring_points _ _ (kept_ring xs ys e f (sound_fault xs ys even short p))
 
 -- ---- refusals
 
@@ -220,25 +229,20 @@ done (given ts) l e =
     let g : triples l ≡ ts = ap triples f ∙ triples_corners ts in
     (ap given (sym g), ap corners g ∙ sym f)
 
-module _ (rx ry : List Float) where
-  pub ring_stalled : {n : ℕ} → refused n ≡ map_answer corners (triangles_of rx ry) → triangles_of rx ry ≡ refused n
-  ring_stalled g = stalled (triangles_of rx ry) g
+-- what a call that gives corners answers
+pub corners_refused : (r : Result Corners Refusal) (a : Answer (List Triangle)) {n : ℕ} → refused n ≡ map_answer corners a → answer r ≡ refused n → map_answer (λ (c : Corners). triples c.places.now) (answer r) ≡ a
+corners_refused r a e f = rw f (sym (stalled a e))
 
-  -- out is what clipping left
-  pub ring_cut : (out : List ℕ) → given out ≡ map_answer corners (triangles_of rx ry) → (triangles_of rx ry ≡ given (triples out)) × (corners (triples out) ≡ out)
-  ring_cut out g = done (triangles_of rx ry) out g
+pub corners_given : (a : Answer (List Triangle)) (l : List ℕ) → given l ≡ map_answer corners a → (given (triples l) ≡ a) × (corners (triples l) ≡ l)
+corners_given a l e = let d = done a l e in (sym d.0, d.1)
 
--- The points at the places kept, gathered, are rx and ry; out has been written with what their clipping gives.
+-- The points at the places kept, gathered, are rx and ry.
 module _ (xs ys rx ry : List Float) (m c : ℕ) (e : rx ≡ gathered xs (kept xs ys)) (f : ry ≡ gathered ys (kept xs ys)) where
   same_triangles : triangles_of rx ry ≡ triangles_of (gathered xs (kept xs ys)) (gathered ys (kept xs ys))
   same_triangles = ap (λ (l : List Float). triangles_of l ry) e ∙ ap (triangles_of (gathered xs (kept xs ys))) f
 
-  pub cut_stalled : {n : ℕ} → refused n ≡ map_answer corners (triangles_of rx ry) → cutting xs ys m c (kept xs ys) ≡ refused n
-  cut_stalled g = not_cut xs ys m c (kept xs ys) (sym same_triangles ∙ ring_stalled rx ry g)
+  pub cut_stalled : {n : ℕ} → refused n ≡ triangles_of rx ry → cutting xs ys m c (kept xs ys) ≡ refused n
+  cut_stalled g = not_cut xs ys m c (kept xs ys) (sym same_triangles ∙ sym g)
 
-  module _ (out : List ℕ) (g : given out ≡ map_answer corners (triangles_of rx ry)) where
-    pub whole_triangles : corners (triples out) ≡ out
-    whole_triangles = (ring_cut rx ry out g).1
-
-    pub cut_done : (ks : List ℕ) → ks ≡ kept xs ys → fitted m c ks (triples out) ≡ cutting xs ys m c (kept xs ys)
-    cut_done ks h = ap (λ (l : List ℕ). fitted m c l (triples out)) h ∙ sym (cut_to xs ys m c (kept xs ys) (sym same_triangles ∙ (ring_cut rx ry out g).0))
+  pub cut_done : (ts : List Triangle) → given ts ≡ triangles_of rx ry → fitted m c (kept xs ys) ts ≡ cutting xs ys m c (kept xs ys)
+  cut_done ts g = sym (cut_to xs ys m c (kept xs ys) (sym same_triangles ∙ sym g))

@@ -5,9 +5,8 @@ use mathlib.Core.List.{List, [], ◌∷◌, reverse, reverse-append}
 use Prim.Native.Nat.{ℕ, zero, suc, ◌-◌, ◌≤◌, ◌<◌}
 use native.Mathlib.Nat.{le_refl}
 use native.Mathlib.Omega.{arith}
-use lib.ListN.{take}
-use Rattle.lists.specs.Lists.{put, runs, elems, Below}
-use Rattle.lists.proofs.Fills.{put_start, elems_suc, elems_same, elems_front, elems_length}
+use Rattle.lists.specs.Lists.{runs, elems, Below}
+use Rattle.lists.proofs.Fills.{elems_suc, elems_same, elems_front}
 use Rattle.lists.proofs.Places.{below_more}
 use Rattle.meshing.specs.Triangles.{walk}
 
@@ -26,13 +25,9 @@ back_elems (suc n) =
     ∙ ap (λ (k : ℕ). k ∷ elems n (λ i. walk_at false (suc n) (suc i))) first
     ∙ sym (elems_front (walk_at false (suc n)) n)
 
-pub walk_elems : (d : Bool) (n : ℕ) → elems n (walk_at d n) ≡ walk d n
+walk_elems : (d : Bool) (n : ℕ) → elems n (walk_at d n) ≡ walk d n
 walk_elems true n = refl
 walk_elems false n = sym (back_elems n)
-
--- the walk round n vertices, filled in
-pub walk_filled : (d : Bool) (l : List ℕ) (n : ℕ) {l' : List ℕ} → l' ≡ put l 0 (elems n (walk_at d n)) → take n l' ≡ walk d n
-walk_filled d l n e = put_start l (elems n (walk_at d n)) e (sym (elems_length (walk_at d n) n)) ∙ walk_elems d n
 
 -- its vertices are below n
 elems_below : (d : Bool) (n k : ℕ) → k ≤ n → Below n (elems k (walk_at d n))

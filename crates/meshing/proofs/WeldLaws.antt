@@ -1,10 +1,12 @@
 -- Welding: keys, which nodes are kept, new numbers, and what the calls answer. Assumes nothing.
-use Prim.Native.Nat.{ℕ, ◌+◌, ◌≤◌, ◌<◌}
-use mathlib.Core.Path.{◌≡◌, refl, sym, ap, ◌∙◌}
+use Prim.Native.Nat.{ℕ, zero, suc, ◌+◌, ◌≤◌, ◌<◌}
+use mathlib.Core.Path.{◌≡◌, refl, sym, ap, ◌∙◌, subst}
 use mathlib.Core.Bool.{Bool, true, false, not, ◌&&◌, cond}
 use mathlib.Core.List.{List, [], ◌∷◌, ◌++◌, map}
-use mathlib.Core.Logic.{◌⊎◌, inl, inr}
+use mathlib.Core.Logic.{◌⊎◌, inl, inr, ⊎_elim}
 use Rattle.std.specs.Prelude.{Option, Some, None}
+use Rattle.std.specs.Option.{option_eq}
+use Rattle.std.specs.List.{filter, range_with_len}
 use native.Mathlib.Nat.{eq-or-lt_of_le}
 use native.Mathlib.Omega.{arith}
 use mir.Syntax.{w64}
@@ -12,19 +14,20 @@ use mir.Val.{of_z, to_z, SFits}
 use mir.ValLaws.{to_z-of_z}
 use lib.Dec.{eqb, leb, ltb}
 use lib.IntN.{ℤ, pos, negsuc}
-use lib.ListN.{length, get_or, set, length-append}
+use lib.ListN.{length, take, get_or, set, length-append, get_or-append}
+use lib.Seq.{get_or_at}
 use lib.Ieee.{Float, nan}
 use Rattle.std.specs.Prelude.{Result, Ok, Err}
-use borrow.Author.Tests.{eqb-true, eqb-false, eq-eqb, ne_eqb, ltb-true, ltb-false, lt-ltb, le-ltb, leb-true, le-leb, lt-leb}
+use borrow.Author.Tests.{not-false, eqb-true, eqb-false, eq-eqb, ne_eqb, ltb-true, ltb-false, lt-ltb, le-ltb, leb-true, le-leb, lt-leb}
 use Rattle.lists.specs.Answer.{Answer, refused, given}
 use Rattle.lists.specs.Lists.{put, runs, elems, gather, passing, any_below, first}
-use Rattle.lists.proofs.Fills.{elems_length}
-use Rattle.lists.proofs.Passing.{passing_more, passing_skips, passing_grows, passing_most}
+use Rattle.lists.proofs.Fills.{elems_same, elems_front, elems_length, put_length}
+use Rattle.lists.proofs.Passing.{passing_more, passing_skips, passing_suc, skipping_suc, passing_grows, passing_most}
 use Rattle.lists.proofs.Places.{gather_length}
 use Rattle.lists.proofs.Answers.{passed}
-use Rattle.lists.proofs.Scans.{both, and_false, any_holds, any_nowhere}
-use Rattle.lists.proofs.Searches.{First, first_is, first_none, first_same}
-use Rattle.lists.proofs.Stores.{map_at, Gathered, gather_start, gather_more, gather_stays}
+use Rattle.lists.proofs.Scans.{both, and_false, any_holds, any_some, any_nowhere}
+use Rattle.lists.proofs.Searches.{First, first_is, first_none, first_some, first_same, first_below}
+use Rattle.lists.proofs.Stores.{map_at, Gathered, gather_start, gather_more, gather_stays, gather_front}
 use Rattle.binary64.specs.Numbers.{◌⊘◌, at, at_most}
 use Rattle.binary64.specs.Rounding.{nearest_capped}
 use Rattle.openrdson_core.specs.Refusals.{refusal_number}
@@ -34,7 +37,9 @@ use Rattle.openrdson_core.specs.Answers.{answer}
 use Rattle.openrdson_core.specs.Mesh.{Mesh, the_mesh, the_counts, parallel}
 use Rattle.openrdson_core.specs.declared.mesh.Counts.{Counts}
 use Rattle.meshing.specs.declared.weld.Key.{Key}
-use Rattle.meshing.specs.Whole.{nodes_in, elements_fault, mesh_fault}
+use Rattle.meshing.specs.Whole.{nodes_in, elements_fault, mesh_fault, mesh_size, contents_fault}
+use Rattle.openrdson_core.proofs.MeshLaws.{equal_lengths}
+use Rattle.meshing.proofs.WholeLaws.{fault_by_contents}
 use Rattle.meshing.specs.Welds as spec
 
 -- ---- keys
@@ -116,13 +121,6 @@ module _ (tolerance : Float) (xs ys zs : List Float) (i : ℕ) (k : Key) where
 abbrev pub has_key : Float → List Float → List Float → List Float → Key → ℕ → Bool
 has_key tolerance xs ys zs k j = spec.same_key (spec.key_at tolerance xs ys zs j) k
 
-pub found_most : (test : ℕ → Bool) (n : ℕ) → spec.found_or n (first test n 0) ≤ n
-found_most test n = step (first test n 0) refl
-  where
-    step : (o : Option ℕ) → first test n 0 ≡ o → spec.found_or n o ≤ n
-    step None e = omega arith
-    step (Some j) e = omega (arith, (first_is test n 0 j e).below)
-
 -- a place that passes is the one found exactly where no place before it passes
 pub found_first : (test : ℕ → Bool) (n i : ℕ) → i < n → test i ≡ true → eqb (spec.found_or n (first test n 0)) i ≡ not (any_below i test)
 found_first test n i l t = step (first test n 0) refl
@@ -142,6 +140,11 @@ found_first test n i l t = step (first test n 0) refl
     step None e = absurd (differ (first_none test n 0 e i (omega arith) (omega arith)))
     step (Some j) e = let f = first_is test n 0 j e in at j f (eq-or-lt_of_le (up_to j f (ltb i j) refl))
 
+-- whether place i is the one found
+found_is : (i n : ℕ) → i < n → (f : Option ℕ) → option_eq eqb f (Some i) ≡ eqb (spec.found_or n f) i
+found_is i n h None = sym (ne_eqb n i (λ is. omega arith))
+found_is i n h (Some j) = refl
+
 -- ---- the nodes that are kept
 
 module _ (tolerance : Float) (xs ys zs : List Float) where
@@ -153,6 +156,11 @@ module _ (tolerance : Float) (xs ys zs : List Float) where
       → eqb f i ≡ spec.is_first tolerance xs ys zs i
   unfolding spec.is_first
   is_first_lem i {f} {k} h e is = rw (is, e) (found_first (has_key tolerance xs ys zs (spec.key_at tolerance xs ys zs i)) (length xs) i h (key_self (spec.key_at tolerance xs ys zs i)))
+
+  -- b says whether the search found node i
+  pub first_found : (i : ℕ) {k : Key} {f : Option ℕ} {b : Bool} → b ≡ option_eq eqb f (Some i) → i < length xs → k ≡ spec.key_at tolerance xs ys zs i → f ≡ first (has_key tolerance xs ys zs k) (length xs) 0
+      → b ≡ spec.is_first tolerance xs ys zs i
+  first_found i {f = f} same h e is = same ∙ found_is i (length xs) h f ∙ is_first_lem i h e (ap (spec.found_or (length xs)) is)
 
   pub kept_start : kept_of 0 ≡ []
   unfolding runs elems
@@ -174,13 +182,6 @@ module _ (tolerance : Float) (xs ys zs : List Float) where
   count_skips : (i : ℕ) {count : ℕ} → count ≡ length (kept_of i) → spec.is_first tolerance xs ys zs i ≡ false → count ≡ length (kept_of (i + 1))
   count_skips i e h = e ∙ ap length (sym (kept_skips i h))
 
-  -- a turn of the loop that counts them: b says whether node i is one
-  pub count_one : (i : ℕ) {count count' : ℕ} → count ≡ length (kept_of i) → {b : Bool} → b ≡ spec.is_first tolerance xs ys zs i → b ≡ true → count' ≡ count + 1 → count' ≡ length (kept_of (i + 1))
-  count_one i e is t f = f ∙ count_more i e (sym is ∙ t)
-
-  pub count_none : (i : ℕ) {count count' : ℕ} → count ≡ length (kept_of i) → {b : Bool} → b ≡ spec.is_first tolerance xs ys zs i → b ≡ false → count' ≡ count → count' ≡ length (kept_of (i + 1))
-  count_none i e is t f = f ∙ count_skips i e (sym is ∙ t)
-
   -- one more has room where all of them have
   kept_room : (i n : ℕ) {count : ℕ} → count ≡ length (kept_of i) → spec.is_first tolerance xs ys zs i ≡ true → i < n → count < length (kept_of n)
   kept_room i n e h l = omega (arith, count_more i e h, passing_grows (spec.is_first tolerance xs ys zs) (λ i. i) (i + 1) n (omega arith))
@@ -195,6 +196,55 @@ module _ (tolerance : Float) (xs ys zs : List Float) where
   abbrev ks : List ℕ
   ks = spec.kept tolerance xs ys zs
 
+  -- some node of l has the key of node p
+  record Held (l : List ℕ) (p : ℕ) : Type 0 where
+    place : ℕ
+    inside : place < length l
+    same : spec.key_at tolerance xs ys zs (get_or l place 0) ≡ spec.key_at tolerance xs ys zs p
+
+  held_more : (l : List ℕ) (p i : ℕ) → Held l p → Held (l ++ (i ∷ [])) p
+  held_more l p i h =
+      record {
+        place = h.place;
+        inside = omega (arith, h.inside, length-append l (i ∷ []));
+        same = ap (spec.key_at tolerance xs ys zs) (get_or-append l (i ∷ []) 0 h.place h.inside) ∙ h.same;
+      }
+
+  held_last : (l : List ℕ) (i : ℕ) → Held (l ++ (i ∷ [])) i
+  held_last l i = record { place = length l; inside = omega (arith, length-append l (i ∷ [])); same = ap (spec.key_at tolerance xs ys zs) (get_or_at l i [] 0 (length l) refl) }
+
+  -- a node that is not the first has one before it
+  not_first : (i : ℕ) → spec.is_first tolerance xs ys zs i ≡ false → (j : ℕ) × (j < i) × (spec.key_at tolerance xs ys zs j ≡ spec.key_at tolerance xs ys zs i)
+  unfolding spec.is_first
+  not_first i e =
+      let s = any_some (λ j. spec.same_key (spec.key_at tolerance xs ys zs j) (spec.key_at tolerance xs ys zs i)) i (not-false _ e) in
+      (s.0, s.1, key_same (spec.key_at tolerance xs ys zs s.0) (spec.key_at tolerance xs ys zs i) s.2)
+
+  -- the nodes kept of the first n hold the keys of all of them
+  held : (n p : ℕ) → p < n → Held (kept_of n) p
+  held zero p h = absurd (omega arith)
+  held (suc n) p h = step (spec.is_first tolerance xs ys zs n) refl (held n)
+    where
+      l : p ≤ n
+      l = omega arith
+
+      step : (b : Bool) → spec.is_first tolerance xs ys zs n ≡ b → ((q : ℕ) → q < n → Held (kept_of n) q) → Held (kept_of (suc n)) p
+      step true t before =
+          subst (λ (k : List ℕ). Held k p) (sym (passing_suc (spec.is_first tolerance xs ys zs) (λ i. i) n t))
+          (⊎_elim
+          (λ (e : p ≡ n). subst (Held (kept_of n ++ (n ∷ []))) (sym e) (held_last (kept_of n) n))
+          (λ k. held_more (kept_of n) p n (before p k))
+          (eq-or-lt_of_le l))
+      step false t before =
+          subst (λ (k : List ℕ). Held k p) (sym (skipping_suc (spec.is_first tolerance xs ys zs) (λ i. i) n t))
+          (⊎_elim
+          (λ (e : p ≡ n).
+          let s = not_first n t in
+          let b = before s.0 s.1 in
+          record { place = b.place; inside = b.inside; same = b.same ∙ s.2 ∙ ap (spec.key_at tolerance xs ys zs) (sym e) })
+          (λ k. before p k)
+          (eq-or-lt_of_le l))
+
   number_in : (p : ℕ) (k : Key) → k ≡ spec.key_at tolerance xs ys zs p
       → spec.found_or (length (gather nan xs ks)) (first (has_key tolerance (gather nan xs ks) (gather nan ys ks) (gather nan zs ks) k) (length (gather nan xs ks)) 0)
       ≡ spec.new_number tolerance xs ys zs p
@@ -208,9 +258,43 @@ module _ (tolerance : Float) (xs ys zs : List Float) where
   unfolding spec.renumbered
   new_number_lem p {k} h l e is = is ∙ rw (h.x, h.y, h.z, lt-ltb p (length xs) l) (number_in p k e)
 
+  -- the lookup among the nodes kept finds one
+  pub look_up_finds : {kx ky kz : List Float} (p : ℕ) {k : Key} {f : Option ℕ} → spec.KeptNodes tolerance xs ys zs kx ky kz → p < length xs → k ≡ spec.key_at tolerance xs ys zs p
+      → f ≡ first (has_key tolerance kx ky kz k) (length kx) 0 → f ≡ None → ⊥
+  look_up_finds p h l e is none =
+      let test = has_key tolerance (gather nan xs ks) (gather nan ys ks) (gather nan zs ks) (spec.key_at tolerance xs ys zs p) in
+      let g = held (length xs) p l in
+      let holds : test g.place ≡ true = ap (λ (a : Key). spec.same_key a (spec.key_at tolerance xs ys zs p)) (gathered_key ks g.place g.inside ∙ g.same) ∙ key_self (spec.key_at tolerance xs ys zs p) in
+      let f = first_some test (length (gather nan xs ks)) g.place (omega (arith, g.inside, gather_length nan xs ks)) holds in
+      no_some {n = f.0} (sym none ∙ is ∙ rw (h.x, h.y, h.z, e) f.1)
+    where
+      no_some : {n : ℕ} → None ≡ Some n → ⊥
+      no_some z = let y : ◌≡◌ {A = ℕ} 0 1 = cc in omega arith
+
   pub no_node : (p : ℕ) → length xs ≤ p → p ≡ spec.renumbered tolerance xs ys zs p
   unfolding spec.renumbered
   no_node p h = rw (le-ltb p (length xs) h)
+
+-- ---- what an iterator over the nodes that passes some on gives
+
+filter_passing : (test : ℕ → Bool) (l : List ℕ) → filter test l ≡ passing test l
+filter_passing test [] = refl
+filter_passing test (a ∷ l) = ap (λ (rest : List ℕ). cond (test a) (a ∷ rest) rest) (filter_passing test l)
+
+no_elems : (f : ℕ → ℕ) → [] ≡ elems 0 f
+unfolding runs elems
+no_elems f = refl
+
+range_elems : (a n : ℕ) → range_with_len a n ≡ elems n (λ i. a + i)
+range_elems a zero = no_elems (λ i. a + i)
+range_elems a (suc n) =
+    let head : a ≡ a + 0 = omega arith in
+    ap (λ (l : List ℕ). a ∷ l) (range_elems (a + 1) n ∙ elems_same (λ i. a + 1 + i) (λ i. a + suc i) n (λ i h. omega arith))
+    ∙ ap (λ (x : ℕ). x ∷ elems n (λ i. a + suc i)) head
+    ∙ sym (elems_front (λ i. a + i) n)
+
+pub filter_range : (test : ℕ → Bool) (n : ℕ) → filter test (range_with_len 0 n) ≡ passing test (elems n (λ i. i))
+filter_range test n = filter_passing test (range_with_len 0 n) ∙ ap (passing test) (range_elems 0 n ∙ elems_same (λ i. 0 + i) (λ i. i) n (λ i h. omega arith))
 
 -- ---- the loop that writes the nodes kept
 
@@ -254,31 +338,18 @@ module _ (tolerance : Float) (xs ys zs ox₀ oy₀ oz₀ : List Float) where
           z = gather_stays nan zs oz₀ w.z as-was;
         }
 
-  -- all nodes are passed
-  pub written : {i count : ℕ} {ox oy oz : List Float} → Writing tolerance xs ys zs ox₀ oy₀ oz₀ i count ox oy oz → i ≡ length xs
-      → (count ≡ length (spec.kept tolerance xs ys zs)) × (ox ≡ put ox₀ 0 (gather nan xs (spec.kept tolerance xs ys zs)))
-      × (oy ≡ put oy₀ 0 (gather nan ys (spec.kept tolerance xs ys zs))) × (oz ≡ put oz₀ 0 (gather nan zs (spec.kept tolerance xs ys zs)))
-  written w e =
-      let f = ap (kept_of tolerance xs ys zs) e in
-      (w.many ∙ ap length f, w.x.is ∙ ap (λ (k : List ℕ). put ox₀ 0 (gather nan xs k)) f, w.y.is ∙ ap (λ (k : List ℕ). put oy₀ 0 (gather nan ys k)) f, w.z.is ∙ ap (λ (k : List ℕ). put oz₀ 0 (gather nan zs k)) f)
-
 -- ---- the lookup among the nodes kept
 
 module _ (tolerance : Float) (xs ys zs : List Float) {kx ky kz : List Float} (h : spec.KeptNodes tolerance xs ys zs kx ky kz) where
-  -- the three lists are equally long
-  pub kept_long : (length ky ≡ length kx) × (length kz ≡ length kx) × (length kx ≤ length kx)
-  kept_long =
-      let ks = spec.kept tolerance xs ys zs in
-      let x : length kx ≡ length ks = ap length h.x ∙ gather_length nan xs ks in
-      let y : length ky ≡ length ks = ap length h.y ∙ gather_length nan ys ks in
-      let z : length kz ≡ length ks = ap length h.z ∙ gather_length nan zs ks in
-      (omega arith, omega arith, omega arith)
-
-  pub number_most : length xs ≤ 1048576 → (k : Key) {r : ℕ} → r ≡ spec.found_or (length kx) (first (has_key tolerance kx ky kz k) (length kx) 0) → r ≤ 1048576
+  pub number_most : length xs ≤ 1048576 → (k : Key) {r : ℕ} → Some r ≡ first (has_key tolerance kx ky kz k) (length kx) 0 → r < 1048576
   number_most few k {r} is =
-      omega (arith, is, found_most (has_key tolerance kx ky kz k) (length kx), ap length h.x, gather_length nan xs (spec.kept tolerance xs ys zs), kept_most tolerance xs ys zs (length xs))
+      omega (arith, first_below (has_key tolerance kx ky kz k) (length kx) 0 r (sym is), ap length h.x, gather_length nan xs (spec.kept tolerance xs ys zs), kept_most tolerance xs ys zs (length xs))
 
 -- ---- the call
+
+pub same_mesh : {xs xs' ys ys' zs zs' : List Float} {kinds kinds' places places' regions regions' : List ℕ} → xs ≡ xs' → ys ≡ ys' → zs ≡ zs' → kinds ≡ kinds' → places ≡ places' → regions ≡ regions'
+    → the_mesh xs ys zs kinds places regions ≡ the_mesh xs' ys' zs' kinds' places' regions'
+same_mesh ex ey ez ek ep er = rw (ex, ey, ez, ek, ep, er)
 
 -- a refusal leaves the lent lists as they were
 pub weld_refused : (lent : Mesh) (why : Refusal) (a : Answer Mesh) → a ≡ refused (refusal_number why) → spec.WeldedAs a lent (Err why) lent
@@ -312,6 +383,40 @@ module _ (tolerance : Float) (xs ys zs : List Float) (kinds places regions : Lis
           lists = rw (ex, ey, ez, ek, ep, er);
         }
 
+    -- the nodes, the places, the kinds and the regions are written, one after the other
+    pub weld_written : {m₁ m₂ : Mesh} {kinds' regions' : List ℕ} → count ≤ length lent.xs → length kinds ≤ length lent.kinds
+        → m₁ ≡ spec.with_kept (spec.kept tolerance xs ys zs) xs ys zs lent → m₂ ≡ spec.with_places (map (spec.renumbered tolerance xs ys zs) places) m₁
+        → kinds' ≡ put m₂.kinds 0 kinds → regions' ≡ put m₂.regions 0 regions
+        → spec.WeldedAs (spec.fit_welded lent (spec.welded tolerance m)) lent (Ok (the_counts count (length kinds))) (the_mesh m₂.xs m₂.ys m₂.zs kinds' m₂.places regions')
+    weld_written h g e f ek er =
+        weld_done _ _ _ _ _ _ h g
+        (ap (λ (a : Mesh). a.xs) f ∙ ap (λ (a : Mesh). a.xs) e)
+        (ap (λ (a : Mesh). a.ys) f ∙ ap (λ (a : Mesh). a.ys) e)
+        (ap (λ (a : Mesh). a.zs) f ∙ ap (λ (a : Mesh). a.zs) e)
+        (ek ∙ ap (λ (a : Mesh). put a.kinds 0 kinds) f ∙ ap (λ (a : Mesh). put a.kinds 0 kinds) e)
+        (ap (λ (a : Mesh). a.places) f ∙ ap (λ (a : Mesh). put a.places 0 (map (spec.renumbered tolerance xs ys zs) places)) e)
+        (er ∙ ap (λ (a : Mesh). put a.regions 0 regions) f ∙ ap (λ (a : Mesh). put a.regions 0 regions) e)
+
+    -- where the nodes kept stand
+    pub kept_written : {m₁ : Mesh} → m₁ ≡ spec.with_kept (spec.kept tolerance xs ys zs) xs ys zs lent → spec.KeptNodes tolerance xs ys zs (take count m₁.xs) (take count m₁.ys) (take count m₁.zs)
+    kept_written e =
+        let ks = spec.kept tolerance xs ys zs in
+        record {
+          x = gather_front nan xs lent.xs ks (ap (λ (a : Mesh). a.xs) e) many;
+          y = gather_front nan ys lent.ys ks (ap (λ (a : Mesh). a.ys) e) many;
+          z = gather_front nan zs lent.zs ks (ap (λ (a : Mesh). a.zs) e) many;
+        }
+
+    pub kept_within : {m₁ : Mesh} → m₁ ≡ spec.with_kept (spec.kept tolerance xs ys zs) xs ys zs lent → parallel lent ≡ true → count ≤ length lent.xs
+        → (count ≤ length m₁.xs) × (count ≤ length m₁.ys) × (count ≤ length m₁.zs)
+    kept_within {m₁} e even h =
+        let l = equal_lengths _ _ _ _ _ _ even in
+        let ks = spec.kept tolerance xs ys zs in
+        let x : length m₁.xs ≡ length lent.xs = ap (λ (a : Mesh). length a.xs) e ∙ put_length lent.xs 0 (gather nan xs ks) (omega (arith, as_many)) in
+        let y : length m₁.ys ≡ length lent.ys = ap (λ (a : Mesh). length a.ys) e ∙ put_length lent.ys 0 (gather nan ys ks) (omega (arith, l.same_ys, gather_length nan ys ks, many)) in
+        let z : length m₁.zs ≡ length lent.zs = ap (λ (a : Mesh). length a.zs) e ∙ put_length lent.zs 0 (gather nan zs ks) (omega (arith, l.same_zs, gather_length nan zs ks, many)) in
+        (omega (arith, x), omega (arith, y, l.same_ys), omega (arith, z, l.same_zs))
+
 -- what a mesh that nothing is against tells
 pub record Weldable (m : Mesh) : Type 0 where
   pub even : parallel m ≡ true
@@ -339,3 +444,10 @@ module _ (m : Mesh) (tolerance : Float) (lent : Mesh) where
     pub weld_goes_on : mesh_fault (at_most 20 tolerance) m ≡ given tt → spec.weld_nodes m tolerance lent ≡ spec.fit_welded lent (spec.welded tolerance m)
     unfolding spec.weld_nodes
     weld_goes_on e = rw (even, e)
+
+    -- an accepted mesh, as it is handed on
+    pub weld_follows : {m₁ m₂ lent' : Mesh} {r : Result Counts Refusal} → given tt ≡ mesh_size m → at_most 20 tolerance ≡ true → m₁ ≡ m → given tt ≡ contents_fault m₁ → m₂ ≡ m₁
+        → spec.WeldedAs (spec.fit_welded lent (spec.welded tolerance m₂)) lent r lent' → spec.WeldedAs (spec.weld_nodes m tolerance lent) lent r lent'
+    weld_follows {lent' = lent'} {r = r} size in_range e contents f w =
+        let fine : mesh_fault (at_most 20 tolerance) m ≡ given tt = fault_by_contents m size in_range ∙ ap contents_fault (sym e) ∙ sym contents in
+        rw (weld_goes_on fine) (subst (λ (a : Mesh). spec.WeldedAs (spec.fit_welded lent (spec.welded tolerance a)) lent r lent') (f ∙ e) w)

@@ -1,25 +1,27 @@
 -- Laws of the checks that a mesh passes before it is welded or measured. Assumes nothing.
 use Prim.Native.Nat.{ℕ, ◌*◌, ◌≤◌, ◌<◌}
-use mathlib.Core.Path.{◌≡◌, sym, ap, ◌∙◌}
+use mathlib.Core.Path.{◌≡◌, refl, sym, ap, ◌∙◌}
 use mathlib.Core.Bool.{Bool, true, false, ◌&&◌}
 use mathlib.Core.List.{List}
 use mathlib.Core.Logic.{◌⊎◌, inl, inr, ⊎_elim}
+use Rattle.std.specs.Prelude.{Some}
 use native.Mathlib.Omega.{arith}
 use lib.Dec.{leb}
 use lib.ListN.{length, take, get_or}
 use lib.Seq.{length-take-le, get_or-take}
 use lib.Ieee.{Float}
-use borrow.Author.Tests.{leb-true, eq-eqb}
+use borrow.Author.Tests.{eq-eqb}
 use Rattle.lists.specs.Answer.{refused, given, unless}
 use Rattle.lists.specs.Lists.{all_below, part}
 use Rattle.lists.proofs.Answers.{passed, refused_given, unless_refused}
 use Rattle.lists.proofs.Parts.{part_of_start}
-use Rattle.lists.proofs.Scans.{both, all_fails, all_at, all_from}
+use Rattle.lists.proofs.Scans.{both, and_false, all_fails, all_at, all_from}
 use Rattle.binary64.specs.Numbers.{at, at_most}
-use Rattle.openrdson_core.specs.Mesh.{Mesh, parallel_lengths, parallel, kind_of, used_places, sound_element, inside_element, well_formed}
+use Rattle.openrdson_core.specs.Mesh.{Mesh, parallel_lengths, parallel, known, kind_of, node_count, used_places, sound_element, inside_element, well_formed}
 use Rattle.openrdson_core.specs.declared.mesh.Counts.{Counts}
-use Rattle.openrdson_core.proofs.MeshLaws.{Lengths, equal_lengths, counts_in, place_below, well_formed_lem}
-use Rattle.meshing.specs.Whole.{nodes_in, elements_fault, mesh_fault, up_to}
+use Rattle.openrdson_core.specs.declared.mesh.ElementType.{ElementType}
+use Rattle.openrdson_core.proofs.MeshLaws.{Lengths, equal_lengths, counts_in, place_below, used_most, well_formed_lem}
+use Rattle.meshing.specs.Whole.{nodes_in, elements_fault, mesh_fault, mesh_size, contents_fault, up_to}
 
 -- ---- nodes in range
 
@@ -51,37 +53,75 @@ module _ (kinds places : List ℕ) where
         ap (λ (b : Bool). unless b 13 (given tt)) (noted ∙ ap (λ (n : ℕ). all_below n (inside_at nodes)) is)
         ∙ sym (rw (sym (ap (λ (n : ℕ). all_below n sound_at) is) ∙ h))
 
--- ---- what a mesh that nothing is against tells
+    -- so it is refused where some element is not inside, and not where all are
+    pub some_outside : (e : ℕ) → e ≡ length kinds → all_below e sound_at ≡ true → {inside : Bool} → inside ≡ all_below e (inside_at nodes) → inside ≡ false → refused 13 ≡ elements_fault nodes kinds places
+    some_outside e is h noted f = ap (λ (b : Bool). unless b 13 (given tt)) (sym f) ∙ inside_decides e is h noted
 
-pub record Whole (m : Mesh) : Type 0 where
-  pub lists : Lengths (length m.xs) (length m.ys) (length m.zs) (length m.kinds) (length m.places) (length m.regions)
-  pub few_nodes : length m.xs ≤ 1048576
-  pub few_elements : length m.kinds ≤ 1048576
-  pub nodes : nodes_in m.xs m.ys m.zs ≡ true
-  pub sound : (e : ℕ) → e < length m.kinds → sound_at m.kinds m.places e ≡ true
-  pub inside : (e k : ℕ) → e < length m.kinds → k < used_places (kind_of (get_or m.kinds e 0)) → get_or (part (8 * e) 8 m.places) k 0 < length m.xs
+    pub all_inside : (e : ℕ) → e ≡ length kinds → all_below e sound_at ≡ true → {inside : Bool} → inside ≡ all_below e (inside_at nodes) → inside ≡ true → given tt ≡ elements_fault nodes kinds places
+    all_inside e is h noted f = ap (λ (b : Bool). unless b 13 (given tt)) (sym f) ∙ inside_decides e is h noted
 
-pub nothing_against : (ok : Bool) (m : Mesh) → mesh_fault ok m ≡ given tt → Whole m
-unfolding elements_fault mesh_fault
-nothing_against ok m e =
-    let kinds = m.kinds in
-    let places = m.places in
-    let nodes = length m.xs in
-    let one = passed (parallel m) 16 _ e in
-    let two = passed (leb nodes 1048576 && leb (length kinds) 1048576) 2 _ one.1 in
-    let three = passed (nodes_in m.xs m.ys m.zs && ok) 1 _ two.1 in
-    let four = passed (all_below (length kinds) (sound_at kinds places)) 15 _ three.1 in
-    let five = passed (all_below (length kinds) (inside_at kinds places nodes)) 13 _ four.1 in
-    let few = both (leb nodes 1048576) (leb (length kinds) 1048576) two.0 in
-    record {
-      lists = equal_lengths _ _ _ _ _ _ one.0;
-      few_nodes = leb-true _ _ few.0;
-      few_elements = leb-true _ _ few.1;
-      nodes = (both (nodes_in m.xs m.ys m.zs) ok three.0).0;
-      sound = all_at (sound_at kinds places) (length kinds) four.0;
-      inside =
-          λ e k l h. place_below nodes (part (8 * e) 8 places) (used_places (kind_of (get_or kinds e 0))) (all_at (inside_at kinds places nodes) (length kinds) five.0 e l) k h;
-    }
+    -- what elements that nothing is against tell
+    pub record Elements : Type 0 where
+      pub known : (e : ℕ) → e < length kinds → known (kind_of (get_or kinds e 0)) ≡ true
+      pub inside : (e k : ℕ) → e < length kinds → k < used_places (kind_of (get_or kinds e 0)) → get_or (part (8 * e) 8 places) k 0 < nodes
+
+    pub fine_elements : given tt ≡ elements_fault nodes kinds places → Elements
+    unfolding elements_fault
+    fine_elements fine =
+        let four = passed (all_below (length kinds) sound_at) 15 _ (sym fine) in
+        let five = passed (all_below (length kinds) (inside_at nodes)) 13 _ four.1 in
+        record {
+          known = λ e l. (both _ _ (all_at sound_at (length kinds) four.0 e l)).0;
+          inside =
+              λ e k l h. place_below nodes (part (8 * e) 8 places) (used_places (kind_of (get_or kinds e 0))) (all_at (inside_at nodes) (length kinds) five.0 e l) k h;
+        }
+
+-- ---- the two parts of the check
+
+module _ (m : Mesh) where
+  abbrev few : Bool
+  few = leb (length m.xs) 1048576 && leb (length m.kinds) 1048576
+
+  -- what the first part is against is against the mesh
+  pub fault_by_size : (ok : Bool) {n : ℕ} → refused n ≡ mesh_size m → mesh_fault ok m ≡ refused n
+  unfolding mesh_fault
+  fault_by_size ok {n} e = go (parallel m) few e
+    where
+      go : (p q : Bool) → refused n ≡ unless p 16 (unless q 2 (given (tt {0}))) → unless p 16 (unless q 2 (unless (nodes_in m.xs m.ys m.zs && ok) 1 (elements_fault (length m.xs) m.kinds m.places))) ≡ refused n
+      go false q e = sym e
+      go true false e = sym e
+      go true true e = refused_given e
+
+  -- where it is against nothing the second part decides
+  fault_goes_on : (ok : Bool) → given tt ≡ mesh_size m → mesh_fault ok m ≡ unless (nodes_in m.xs m.ys m.zs && ok) 1 (elements_fault (length m.xs) m.kinds m.places)
+  unfolding mesh_fault
+  fault_goes_on ok e =
+      let one = passed (parallel m) 16 _ (sym e) in
+      let two = passed few 2 (given tt) one.1 in
+      rw (one.0, two.0)
+
+  pub fault_by_number : {ok : Bool} → given tt ≡ mesh_size m → ok ≡ false → mesh_fault ok m ≡ refused 1
+  fault_by_number {ok} e f = fault_goes_on ok e ∙ rw (f, and_false (nodes_in m.xs m.ys m.zs))
+
+  pub fault_by_contents : {ok : Bool} → given tt ≡ mesh_size m → ok ≡ true → mesh_fault ok m ≡ contents_fault m
+  fault_by_contents {ok} e f = fault_goes_on ok e ∙ ap (λ (b : Bool). unless b 1 (elements_fault (length m.xs) m.kinds m.places)) (ap (λ (b : Bool). nodes_in m.xs m.ys m.zs && b) f ∙ with_true (nodes_in m.xs m.ys m.zs))
+    where
+      with_true : (b : Bool) → (b && true) ≡ b
+      with_true true = refl
+      with_true false = refl
+
+-- ---- the places that an element uses, as a list of their own
+
+module _ (t : ElementType) {n : ℕ} (many : n ≡ node_count t) (places : List ℕ) (eight : length places ≡ 8) where
+  pub used_long : length (take n places) ≡ node_count t
+  used_long = length-take-le n places (omega (arith, used_most t)) ∙ many
+
+  pub used_inside : (kind : ℕ) → kind_of kind ≡ Some t → {kind' : ℕ} {places' : List ℕ} {xs xs' : List Float} → kind ≡ kind' → places ≡ places' → xs' ≡ xs
+      → ((i : ℕ) → i < used_places (kind_of kind') → get_or places' i 0 < length xs) → (i : ℕ) → i < length (take n places) → get_or (take n places) i 0 < length xs'
+  used_inside kind is {kind'} e f g inside i h =
+      let l : i < n = omega (arith, used_long) in
+      let u : used_places (kind_of kind') ≡ n = ap (λ (k : ℕ). used_places (kind_of k)) (sym e) ∙ ap used_places is ∙ sym many in
+      rw (g, get_or-take n places i 0 l, f) (inside i (omega arith))
 
 -- ---- a well-formed mesh, taken to its counts, is refused for its size or for a number alone
 

@@ -1,10 +1,10 @@
 -- What a region adds to a mesh, and the mesh with it: appended after the nodes and elements that are counted.
 use Rattle.std.specs.Prelude.{ℕ, ◌+◌, ◌*◌, ◌≡◌, Bool, true, ◌&&◌, ◌||◌, List, eqb, leb, ltb, length, get_or, Float, Result}
-use Rattle.lists.specs.Answer.{Answer, given, unless, map_answer, left}
+use Rattle.lists.specs.Answer.{Answer, given, unless, and_then, map_answer, left}
 use Rattle.lists.specs.Lists.{put, elems, part, all_below}
 use Rattle.openrdson_core.specs.Answers.{answer as answered}
 use Rattle.openrdson_core.specs.declared.refusals.Refusal.{Refusal}
-use Rattle.openrdson_core.specs.Mesh.{Mesh, the_mesh, the_counts, fits, kind_number, kind_of, used_places, rest_unused}
+use Rattle.openrdson_core.specs.Mesh.{Mesh, the_mesh, the_counts, parallel, within, fits, kind_number, kind_of, used_places, rest_unused}
 use Rattle.openrdson_core.specs.declared.mesh.Counts.{Counts}
 use Rattle.openrdson_core.specs.declared.mesh.ElementType.TheVariants.{Hex, Prism}
 
@@ -32,11 +32,21 @@ fit_part c m p =
     (unless (fits (length p.kinds) c.elements (length m.kinds)) 12
     (given p))
 
+-- A mesh that may grow: its lists are parallel, and the counts are within them. No struct has it as a ghost fact: it would need six lists of its own,
+-- since lists in a struct in a struct with ghost facts cannot be lent.
+pub record Grows (c : Counts) (m : Mesh) : Type 0 where
+  pub lists : parallel m ≡ true
+  pub counts : within c m ≡ true
+
 -- ---- what a region call answers, the new counts, and what it leaves in the mesh
 
 pub record Adds (a : Answer Part) (c : Counts) (region : ℕ) (m m' : Mesh) (r : Result Counts Refusal) : Type 0 where
   pub answer : answered r ≡ map_answer (grown c) a
   pub lists : m' ≡ left (map_answer (λ p. added c region p m) a) m
+
+-- the same for what a call finds for its ring: it is appended where there is room
+abbrev pub Appends : Answer Part → Counts → ℕ → Mesh → Mesh → Result Counts Refusal → Type 0
+Appends a c region m m' r = Adds (and_then a (fit_part c m)) c region m m' r
 
 -- ---- what an accepted region call appends, where the mesh has `base` nodes already (proofs/WellFormed)
 

@@ -12,7 +12,7 @@ use Rattle.openrdson_core.specs.declared.mesh.Counts.{Counts}
 use Rattle.openrdson_core.specs.declared.mesh.ElementType.TheVariants.{Hex}
 use Rattle.openrdson_core.specs.declared.bounds.Bbox.{Bbox}
 use Rattle.meshing.specs.declared.cells.MeshConfig.{MeshConfig}
-use Rattle.meshing.specs.declared.boxes.Cells.{Cells}
+use Rattle.meshing.specs.declared.cells.Cells.{Cells}
 use Rattle.meshing.specs.Cells.{cells_for, axis_at}
 use Rattle.meshing.specs.Grid.{grid, grid_nodes, grid_cells, hex_places}
 use Rattle.meshing.specs.Added.{Part}
@@ -73,12 +73,17 @@ mesh_box b z0 z1 material config c m =
 
 -- ---- the same from numbers and the lists' lengths: how many cells a box has along x, y and z, or the refusal (proofs/BoxLaws ties it to `mesh_box`)
 
--- a box's cells, by a name that crates above can say
-abbrev pub BoxCells : Type 0
-BoxCells = Cells
+-- a box's cells
+pub record BoxCells : Type 0 where
+  pub nx : ℕ
+  pub ny : ℕ
+  pub nz : ℕ
 
 abbrev pub the_cells : ℕ → ℕ → ℕ → BoxCells
 the_cells nx ny nz = record { nx = nx; ny = ny; nz = nz }
+
+abbrev pub box_cells : Cells → BoxCells
+box_cells n = the_cells n.nx n.ny n.nz
 
 -- the nodes and hexes of a box of so many cells
 abbrev pub box_of_cells : ℕ → Bbox → Float → Float → BoxCells → Part
@@ -116,6 +121,10 @@ box_judged b z0 z1 material config c xs ys zs kinds places regions =
     (unless (bounds_in b z0 z1) 1
     (cells_judged (b.max_x ⊖ b.min_x) (b.max_y ⊖ b.min_y) (z1 ⊖ z0) config c xs kinds))))
 
+-- the same of a mesh
+abbrev pub judged : Bbox → Float → Float → ℕ → MeshConfig → Counts → Mesh → Answer BoxCells
+judged b z0 z1 material config c m = box_judged b z0 z1 material config c (length m.xs) (length m.ys) (length m.zs) (length m.kinds) (length m.places) (length m.regions)
+
 -- what there is for a box that is meshed: the lists are parallel, the counts are within them, and there is room
 pub record BoxFits (c : Counts) (xs ys zs kinds places regions : ℕ) (n : BoxCells) : Type 0 where
   pub same_ys : xs ≡ ys
@@ -134,3 +143,7 @@ pub record BoxFits (c : Counts) (xs ys zs kinds places regions : ℕ) (n : BoxCe
   pub nodes_room : c.nodes + grid_nodes n.nx n.ny n.nz ≤ xs
   pub elements_most : c.elements + grid_cells n.nx n.ny n.nz ≤ 1048576
   pub elements_room : c.elements + grid_cells n.nx n.ny n.nz ≤ kinds
+
+-- the same of a mesh
+abbrev pub Fits : Counts → Mesh → BoxCells → Type 0
+Fits c m n = BoxFits c (length m.xs) (length m.ys) (length m.zs) (length m.kinds) (length m.places) (length m.regions) n

@@ -1,5 +1,5 @@
 -- The ear rule on binary64 values, each operation rounded once in the Rust's order, and the triangles of a cleaned ring.
-use Rattle.std.specs.Prelude.{ℕ, Bool, not, ◌&&◌, ◌||◌, List, Option, Some, None, eqb, leb, length, Float}
+use Rattle.std.specs.Prelude.{ℕ, Bool, not, ◌&&◌, ◌||◌, List, Option, eqb, leb, length, Float}
 use Rattle.std.specs.Float.Ieee.{lt}
 use Rattle.lists.specs.Answer.{Answer, unless}
 use Rattle.lists.specs.Lists.{all_below, first}

@@ -1,6 +1,7 @@
 -- The mesh of a box, as lists: nx by ny by nz cells, and so nx + 1 by ny + 1 by nz + 1 nodes. x runs fastest, then y, then z.
-use Rattle.std.specs.Prelude.{ℕ, ◌+◌, ◌*◌, List, [], ◌∷◌, Float}
-use Rattle.lists.specs.Lists.{runs, elems}
+use Rattle.std.specs.Prelude.{ℕ, ◌+◌, ◌*◌, ◌≡◌, ◌≤◌, List, [], ◌∷◌, length, Float}
+use Rattle.lists.specs.Lists.{put, runs, elems}
+use Rattle.openrdson_core.specs.Mesh.{Mesh, the_mesh}
 
 -- ---- nodes
 
@@ -17,6 +18,14 @@ grid_nodes nx ny nz = (nx + 1) * (ny + 1) * (nz + 1)
 
 abbrev pub grid_cells : ℕ → ℕ → ℕ → ℕ
 grid_cells nx ny nz = nx * ny * nz
+
+-- a mesh's lists of nodes are equally long, and have n places
+abbrev pub NodesFit : Mesh → ℕ → Type 0
+NodesFit m n = (n ≤ length m.xs) × (length m.ys ≡ length m.xs) × (length m.zs ≡ length m.xs)
+
+-- the mesh with the nodes xs, ys, zs from place at on
+abbrev pub with_nodes : Mesh → ℕ → List Float → List Float → List Float → Mesh
+with_nodes m at xs ys zs = the_mesh (put m.xs at xs) (put m.ys at ys) (put m.zs at zs) m.kinds m.places m.regions
 
 -- ---- hexes
 

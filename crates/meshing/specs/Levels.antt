@@ -5,6 +5,7 @@ use Rattle.lists.specs.Lists.{all_of}
 use Rattle.lists.specs.Sorts.{sort_onto, sort_by}
 use Rattle.binary64.specs.Numbers.{◌⊕◌, ◌⊖◌, ◌⊗◌, abs, at_most}
 use Rattle.binary64.specs.Constants.{half64, tiny15}
+use Rattle.meshing.specs.declared.levels.Band.{Band}
 
 -- of l, without those within 1e-15 of the last kept, which is `last` at first
 unfoldable pub apart_from : Float → List Float → List Float
@@ -21,10 +22,6 @@ apart (y ∷ l) = y ∷ apart_from y l
 -- the heights, sorted stably, without those too close to the last kept
 unfoldable pub levels : List Float → List Float
 levels ys = apart (sort_by lt ys)
-
-pub record Band : Type 0 where
-  pub low : Float
-  pub high : Float
 
 abbrev pub the_band : Float → Float → Band
 the_band low high = record { low = low; high = high }

@@ -9,6 +9,7 @@ use Rattle.openrdson_core.specs.declared.mesh.Counts.{Counts}
 use Rattle.openrdson_core.specs.declared.refusals.Refusal.{Refusal}
 use Rattle.geometry.specs.Regions.{Regions, even_regions, region_at}
 use Rattle.meshing.specs.declared.cells.MeshConfig.{MeshConfig}
+use Rattle.meshing.specs.declared.model.Overrides.{Overrides as Lent}
 use Rattle.meshing.specs.Added.{Part, grown, added}
 use Rattle.meshing.specs.Regions.{mesh_region}
 
@@ -21,6 +22,10 @@ pub record Overrides : Type 0 where
 
 abbrev pub the_overrides : List ℕ → List Float → List Float → Overrides
 the_overrides materials laterals verticals = record { materials = materials; laterals = laterals; verticals = verticals }
+
+-- the overrides in lists that are read
+abbrev pub overrides_of : Lent → Overrides
+overrides_of o = the_overrides o.materials.now o.laterals.now o.verticals.now
 
 abbrev pub no_overrides : Overrides
 no_overrides = the_overrides [] [] []
@@ -110,3 +115,7 @@ model_judged are_regions_even are_points_even are_overrides_even is_mesh_paralle
     (unless (are_counts_in && are_overrides_named) 15
     (unless (leb regions diagnostics) 12
     (given tt))))
+
+abbrev pub job_judged : Regions → List Float → List Float → Overrides → Counts → Mesh → ℕ → Answer (Unit {0})
+job_judged r px py o c m d =
+    model_judged (even_regions r) (eqb (length px) (length py)) (even_overrides o) (parallel m) (length r.kinds) (length px) (length o.materials) (within c m) (all_of named o.materials) d

@@ -1,10 +1,11 @@
 -- Meshing a prism region: clipped into triangular prisms, or by the scanline.
-use Rattle.std.specs.Prelude.{ℕ, ◌+◌, cond, List, [], ◌∷◌, ◌++◌, eqb, leb, length, Float}
+use Rattle.std.specs.Prelude.{ℕ, ◌+◌, ◌≡◌, cond, List, [], ◌∷◌, ◌++◌, eqb, leb, length, Float}
 use Rattle.std.specs.Float.Ieee.{lt}
 use Rattle.lists.specs.Answer.{Answer, refused, given, unless, and_then, map_answer}
 use Rattle.lists.specs.Lists.{elems, joined, part}
-use Rattle.openrdson_core.specs.Mesh.{Mesh, parallel_lengths, parallel, within_lengths, within, unused, kind_number}
-use Rattle.openrdson_core.specs.Solids.{prism_fault}
+use Rattle.openrdson_core.specs.Mesh.{Mesh, parallel, within, unused, kind_number}
+use Rattle.openrdson_core.specs.Points.{ring_fault}
+use Rattle.openrdson_core.specs.Solids.{heights_in, prism_fault}
 use Rattle.openrdson_core.specs.declared.mesh.Counts.{Counts}
 use Rattle.openrdson_core.specs.declared.mesh.ElementType.TheVariants.{Prism}
 use Rattle.meshing.specs.Added.{Part, fit_part}
@@ -12,6 +13,8 @@ use Rattle.meshing.specs.Ring.{kept, gathered}
 use Rattle.meshing.specs.Triangles.{Triangle, tri}
 use Rattle.meshing.specs.Ears.{triangles_of}
 use Rattle.meshing.specs.Rectilinear.{is_rectilinear}
+use Rattle.openrdson_core.specs.declared.ring.SoundRing.{SoundRing}
+use Rattle.meshing.specs.declared.scanline.Extrusion.{Extrusion}
 use Rattle.meshing.specs.Scanline.{scanline_of, quads_part}
 
 -- ---- clipped: bottom nodes 0 to n - 1, top nodes n to 2n - 1
@@ -49,6 +52,21 @@ module _ (base : ℕ) (z0 z1 : Float) where
   unfoldable pub prism_part : List Float → List Float → Answer Part
   prism_part xs ys = ring_part (gathered xs (kept xs ys)) (gathered ys (kept xs ys))
 
+-- the same for a ring from one height to another: by these triangles, cleaned once, and as it is lent
+abbrev pub cut_part : ℕ → Extrusion → List Triangle → Part
+cut_part base e = triangles_part base e.heights.bottom e.heights.top e.ring.ring.xs.now e.ring.ring.ys.now
+
+abbrev pub meshed : ℕ → Extrusion → Answer Part
+meshed base e = ring_part base e.heights.bottom e.heights.top e.ring.ring.xs.now e.ring.ring.ys.now
+
+abbrev pub cleaned : ℕ → Extrusion → Answer Part
+cleaned base e = prism_part base e.heights.bottom e.heights.top e.ring.ring.xs.now e.ring.ring.ys.now
+
+-- s is what r is cleaned to
+pub record Cleans (r s : SoundRing) : Type 0 where
+  pub xs : s.ring.xs.now ≡ gathered r.ring.xs.now (kept r.ring.xs.now r.ring.ys.now)
+  pub ys : s.ring.ys.now ≡ gathered r.ring.ys.now (kept r.ring.xs.now r.ring.ys.now)
+
 -- 16; 15 for counts, material or part; 2; 1; 8; then the scanline's 3, 9, 10, 1, 11, 1; then 12
 unfoldable pub mesh_prism : Float → Float → ℕ → ℕ → ℕ → Counts → List Float → List Float → Mesh → Answer Part
 mesh_prism z0 z1 start count material c px py m =
@@ -60,16 +78,13 @@ mesh_prism z0 z1 start count material c px py m =
     unless (lt z0 z1) 8
     (and_then (prism_part c.nodes z0 z1 (part start count px) (part start count py)) (fit_part c m)))))))
 
--- ---- the same from the lists' lengths, up to 8 (proofs/PrismLaws ties it to `mesh_prism`)
+-- ---- of a part of two point lists that are equally long, and two heights: 15, 2, 1, 8 (proofs/PrismLaws ties it to `mesh_prism`)
 
--- of a part of the point lists and two heights: 15, 2, 1, 8
-unfoldable pub part_judged : List Float → List Float → Float → Float → ℕ → ℕ → Answer (Unit {0})
-part_judged px py z0 z1 start count = and_then (prism_fault px py z0 z1 start count) (λ _. unless (lt z0 z1) 8 (given tt))
-
-unfoldable pub prism_judged : List Float → List Float → Float → Float → ℕ → ℕ → ℕ → Counts → ℕ → ℕ → ℕ → ℕ → ℕ → ℕ → Answer (Unit {0})
-prism_judged px py z0 z1 start count material c xs ys zs kinds places regions =
-    unless (parallel_lengths xs ys zs kinds places regions) 16
-    (unless (eqb (length px) (length py)) 16
-    (unless (within_lengths c xs kinds) 15
-    (unless (leb material 768) 15
-    (part_judged px py z0 z1 start count))))
+unfoldable pub part_fault : List Float → List Float → Float → Float → ℕ → ℕ → Answer (Unit {0})
+part_fault px py z0 z1 start count =
+    unless (leb (start + count) (length px)) 15
+    (unless (leb (length px) 2097152) 2
+    (and_then (ring_fault (part start count px) (part start count py)) (λ _.
+    unless (heights_in z0 z1) 1
+    (unless (lt z0 z1) 8
+    (given tt)))))

@@ -5,7 +5,8 @@ use Rattle.lists.specs.Lists.{joined}
 use Rattle.binary64.specs.Numbers.{◌⊕◌, ◌⊖◌, ◌⊗◌, abs, at_most}
 use Rattle.binary64.specs.Constants.{half64, tiny30}
 use Rattle.meshing.specs.declared.quads.Quad.{Quad}
-use Rattle.meshing.specs.Levels.{Band, levels, bands_of, middle}
+use Rattle.meshing.specs.declared.levels.Band.{Band}
+use Rattle.meshing.specs.Levels.{levels, bands_of, middle}
 use Rattle.meshing.specs.Crossings.{edge_at, crossings}
 
 -- a quad, by a name that crates above can say

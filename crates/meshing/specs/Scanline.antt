@@ -1,14 +1,16 @@
 -- What the scanline answers for a ring, cleaned once: a refusal, or quads; and the nodes and prisms of these.
 use Rattle.std.specs.Prelude.{ℕ, zero, suc, ◌+◌, ◌*◌, ◌≤◌, ◌≡◌, Bool, true, false, not, ◌&&◌, List, [], ◌∷◌, leb, length, Float, Option, Some, None}
-use Rattle.lists.specs.Answer.{Answer, given, unless}
+use Rattle.lists.specs.Answer.{Answer, given, unless, map_answer}
 use Rattle.lists.specs.Lists.{runs, elems, all_of, joined}
-use Rattle.openrdson_core.specs.Points.{ring_fault}
 use Rattle.openrdson_core.specs.Mesh.{unused, kind_number}
 use Rattle.openrdson_core.specs.declared.mesh.ElementType.TheVariants.{Prism}
+use Rattle.openrdson_core.specs.declared.ring.SoundRing.{SoundRing}
+use Rattle.openrdson_core.specs.declared.solids.Heights.{Heights}
 use Rattle.meshing.specs.declared.quads.Quad.{Quad}
 use Rattle.meshing.specs.declared.quads.Tally.{Tally}
 use Rattle.meshing.specs.Added.{Part}
-use Rattle.meshing.specs.Levels.{Band, levels, bands_of, middle}
+use Rattle.meshing.specs.declared.levels.Band.{Band}
+use Rattle.meshing.specs.Levels.{levels, bands_of, middle}
 use Rattle.meshing.specs.Crossings.{crossings, crosses_in}
 use Rattle.meshing.specs.Quads.{quad_in, band_quads, quads_of}
 
@@ -66,6 +68,10 @@ quads_part base z0 z1 qs =
       places = runs (length qs) (λ i. quad_places (base + i * 8));
     }
 
+-- what the scanline finds for a ring from one height to another
+abbrev pub scanned : ℕ → SoundRing → Heights → Answer Part
+scanned base r h = map_answer (quads_part base h.bottom h.top) (scanline_of r.ring.xs.now r.ring.ys.now)
+
 -- ---- what the pass that decides goes by
 
 -- a tally with quads added to it
@@ -78,9 +84,7 @@ abbrev pub BandsAs : List Float → List Float → List Band → Option Tally �
 BandsAs xs ys bs (Some t) = (bands_in xs ys bs ≡ true) × (t.quads ≡ length (joined (band_quads xs ys) bs)) × (t.inside ≡ all_of quad_in (joined (band_quads xs ys) bs))
 BandsAs xs ys bs None = bands_in xs ys bs ≡ false
 
--- a ring that has been checked, at most 512 levels, and room to work in
-pub record Worked (xs ys levels : List Float) (edges at : ℕ) : Type 0 where
-  pub checked : ring_fault xs ys ≡ given tt
-  pub few : length levels ≤ 512
+-- room to work in for the edges of a ring
+pub record Worked (ys : List Float) (edges at : ℕ) : Type 0 where
   pub edges_room : length ys ≤ edges
   pub at_room : length ys ≤ at

@@ -94,3 +94,10 @@ pub record KeptNodes (tolerance : Float) (xs ys zs kx ky kz : List Float) : Type
   pub x : kx ≡ gather nan xs (kept tolerance xs ys zs)
   pub y : ky ≡ gather nan ys (kept tolerance xs ys zs)
   pub z : kz ≡ gather nan zs (kept tolerance xs ys zs)
+
+-- lent lists with the nodes ks of xs, ys, zs over their start, and with node places over theirs
+abbrev pub with_kept : List ℕ → List Float → List Float → List Float → Mesh → Mesh
+with_kept ks xs ys zs m = the_mesh (put m.xs 0 (gather nan xs ks)) (put m.ys 0 (gather nan ys ks)) (put m.zs 0 (gather nan zs ks)) m.kinds m.places m.regions
+
+abbrev pub with_places : List ℕ → Mesh → Mesh
+with_places new m = the_mesh m.xs m.ys m.zs m.kinds (put m.places 0 new) m.regions

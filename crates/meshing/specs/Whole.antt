@@ -25,6 +25,16 @@ mesh_fault ok m =
     (unless (nodes_in m.xs m.ys m.zs && ok) 1
     (elements_fault (length m.xs) m.kinds m.places)))
 
+-- the two parts of it: 16, 2; then 1, 15, 13
+abbrev pub mesh_size : Mesh → Answer (Unit {0})
+mesh_size m =
+    unless (parallel m) 16
+    (unless (leb (length m.xs) 1048576 && leb (length m.kinds) 1048576) 2
+    (given tt))
+
+abbrev pub contents_fault : Mesh → Answer (Unit {0})
+contents_fault m = unless (nodes_in m.xs m.ys m.zs) 1 (elements_fault (length m.xs) m.kinds m.places)
+
 -- a mesh taken to its counts: what is counted and nothing past it
 abbrev pub up_to : Counts → Mesh → Mesh
 up_to c m =

@@ -1,89 +1,65 @@
 // Meshing a box region: structured hexes.
-ghost use Rattle.std.specs.Prelude.{◌≡◌, ◌≤◌, length, Ok};
-ghost use Rattle.lists.specs.Answer.{given};
+ghost use Rattle.std.specs.Prelude.{◌≡◌, Ok};
+ghost use Rattle.lists.specs.Answer.{given, map_answer};
 ghost use Rattle.openrdson_core.specs.Answers.{answer};
-ghost use Rattle.openrdson_core.specs.Mesh.{the_mesh};
+ghost use Rattle.openrdson_core.specs.Mesh.{held, Same};
 ghost use Rattle.meshing.specs.Added.{Adds};
 ghost use Rattle.meshing.specs.Boxes as spec;
 
-use crate::cells::{MeshConfig, cells_for};
+use crate::cells::{Axis, Cells, MeshConfig, cells_for};
 use crate::grid::{write_hexes, write_nodes};
 use crate::writes::fill;
-use openrdson_core::{Bbox, Counts, Material, Refusal, counts_within, has_room, lists_parallel};
+use geometry::LARGEST_MATERIAL;
+use openrdson_core::{
+    Bbox, Counts, ElementType, Heights, Material, MeshLists, Point, Point3, Refusal, has_room,
+};
 
-// How many cells a box has along x, y and z.
-#[derive(Clone, Copy, Debug, PartialEq, Eq)]
-struct Cells {
-    nx: usize,
-    ny: usize,
-    nz: usize,
-}
-
-// Whether a box is meshed, from its numbers and the lengths of the mesh's lists: 16; 15 for counts, then for its material; 1 for its bounds; then as `cells_check`.
+// Whether a box is meshed: 16; 15 for counts, then for its material; 1 for its bounds; then as `cells_check`.
 #[tactic(auto, unfolding(crate::specs::Boxes::box_judged))]
 fn box_check(
     bounds: Bbox,
-    z_bottom: f64,
-    z_top: f64,
+    heights: Heights,
     material: Material,
     config: MeshConfig,
     counts: Counts,
-    xs: usize,
-    ys: usize,
-    zs: usize,
-    kinds: usize,
-    places: usize,
-    regions: usize,
+    lists: &MeshLists<'_>,
 ) -> Result<Cells, Refusal>
-    ensures { answer result ≡ spec.box_judged bounds z_bottom z_top material.0 config counts xs ys zs kinds places regions }
+    ensures { map_answer spec.box_cells (answer result) ≡ spec.judged bounds heights.bottom heights.top material.0 config counts (held lists.now) }
 {
-    if !lists_parallel(xs, ys, zs, kinds, places, regions) {
+    if !lists.is_parallel() {
         return Err(Refusal::UnequalLists);
     }
-    if !counts_within(counts, xs, kinds) {
+    if !lists.holds(counts) {
         return Err(Refusal::OutsideList);
     }
-    if material.0 > 768 {
+    if material.0 > LARGEST_MATERIAL {
         return Err(Refusal::OutsideList);
     }
-    if !bounds_in_range(bounds, z_bottom, z_top) {
+    let low = Point::new(bounds.min_x, bounds.min_y);
+    let high = Point::new(bounds.max_x, bounds.max_y);
+    if !(low.is_in_range() & high.is_in_range() & heights.is_in_range()) {
         return Err(Refusal::NumberOutOfRange);
     }
-    cells_check(
+    let size = Point3::new(
         bounds.max_x - bounds.min_x,
         bounds.max_y - bounds.min_y,
-        z_top - z_bottom,
-        config,
-        counts,
-        xs,
-        kinds,
-    )
+        heights.top - heights.bottom,
+    );
+    cells_check(size, config, counts, lists.xs.len(), lists.kinds.len())
 }
 
-fn bounds_in_range(bounds: Bbox, z_bottom: f64, z_top: f64) -> bool
-    ensures { result ≡ spec.bounds_in bounds z_bottom z_top }
-{
-    binary64::coordinate_in_range(bounds.min_x)
-        & binary64::coordinate_in_range(bounds.min_y)
-        & (binary64::coordinate_in_range(bounds.max_x)
-            & binary64::coordinate_in_range(bounds.max_y))
-        & (binary64::coordinate_in_range(z_bottom) & binary64::coordinate_in_range(z_top))
-}
-
-// Of a box with these extents: 5; 1 for cell sizes; 6; 7; then as `room_check`.
+// Of a box of this size: 5; 1 for cell sizes; 6; 7; then as `room_check`.
 #[tactic(auto, using(crate::proofs::BoxLaws::all_few), unfolding(crate::specs::Boxes::cells_judged))]
 fn cells_check(
-    dx: f64,
-    dy: f64,
-    dz: f64,
+    size: Point3,
     config: MeshConfig,
     counts: Counts,
     nodes: usize,
     kinds: usize,
 ) -> Result<Cells, Refusal>
-    ensures { answer result ≡ spec.cells_judged dx dy dz config counts nodes kinds }
+    ensures { map_answer spec.box_cells (answer result) ≡ spec.cells_judged size.x size.y size.z config counts nodes kinds }
 {
-    if !((dx > 0.0) & (dy > 0.0) & (dz > 0.0)) {
+    if !((size.x > 0.0) & (size.y > 0.0) & (size.z > 0.0)) {
         return Err(Refusal::DegenerateBox);
     }
     let across = config.lateral_cell;
@@ -94,9 +70,9 @@ fn cells_check(
     if !((across > 0.0) & (up > 0.0)) {
         return Err(Refusal::CellSizeNotPositive);
     }
-    let nx = cells_for(dx, across);
-    let ny = cells_for(dy, across);
-    let nz = cells_for(dz, up);
+    let nx = cells_for(size.x, across);
+    let ny = cells_for(size.y, across);
+    let nz = cells_for(size.z, up);
     if !((nx <= 4096) & (ny <= 4096) & (nz <= 4096)) {
         return Err(Refusal::TooManyCells);
     }
@@ -106,19 +82,12 @@ fn cells_check(
 // Of a box with so many cells: 12 for its nodes, then for its elements.
 #[tactic(auto, unfolding(crate::specs::Boxes::room_judged))]
 fn room_check(cells: Cells, counts: Counts, nodes: usize, kinds: usize) -> Result<Cells, Refusal>
-    requires x { cells.nx ≤ 4096 }
-    requires y { cells.ny ≤ 4096 }
-    requires z { cells.nz ≤ 4096 }
-    ensures { answer result ≡ spec.room_judged cells counts nodes kinds }
+    ensures { map_answer spec.box_cells (answer result) ≡ spec.room_judged (spec.box_cells cells) counts nodes kinds }
 {
-    if !has_room(
-        (cells.nx + 1) * (cells.ny + 1) * (cells.nz + 1),
-        counts.nodes,
-        nodes,
-    ) {
+    if !has_room(cells.nodes(), counts.nodes, nodes) {
         return Err(Refusal::OutputTooShort);
     }
-    if !has_room(cells.nx * cells.ny * cells.nz, counts.elements, kinds) {
+    if !has_room(cells.elements(), counts.elements, kinds) {
         return Err(Refusal::OutputTooShort);
     }
     Ok(cells)
@@ -127,44 +96,27 @@ fn room_check(cells: Cells, counts: Counts, nodes: usize, kinds: usize) -> Resul
 // Writes a box that has been judged, and counts what is there then.
 fn write_box(
     bounds: Bbox,
-    z_bottom: f64,
-    z_top: f64,
+    heights: Heights,
     region: u32,
     counts: Counts,
     cells: Cells,
-    xs: &mut [f64],
-    ys: &mut [f64],
-    zs: &mut [f64],
-    kinds: &mut [u8],
-    places: &mut [u32],
-    regions: &mut [u32],
+    lists: &mut MeshLists<'_>,
 ) -> Counts
-    requires { spec.BoxFits counts (length xs.old) (length ys.old) (length zs.old) (length kinds.old) (length places.old) (length regions.old) cells }
-    ensures { Adds (given (spec.box_of_cells counts.nodes bounds z_bottom z_top cells)) counts region (the_mesh xs.old ys.old zs.old kinds.old places.old regions.old) (the_mesh xs.new ys.new zs.new kinds.new places.new regions.new) (Ok result) }
+    requires { spec.Fits counts (held lists.old) (spec.box_cells cells) }
+    ensures mesh { Adds (given (spec.box_of_cells counts.nodes bounds heights.bottom heights.top (spec.box_cells cells))) counts region (held lists.old) (held lists.new) (Ok result) }
+    ensures same { Same lists.old lists.new }
 {
-    let Cells { nx, ny, nz } = cells;
-    let nodes = (nx + 1) * (ny + 1) * (nz + 1);
-    let elements = nx * ny * nz;
-    write_nodes(
-        xs,
-        ys,
-        zs,
-        counts.nodes,
-        bounds.min_x,
-        bounds.max_x,
-        nx,
-        bounds.min_y,
-        bounds.max_y,
-        ny,
-        z_bottom,
-        z_top,
-        nz,
-    );
-    fill(kinds, counts.elements, elements, 1);
-    write_hexes(places, 8 * counts.elements, counts.nodes, nx, ny, nz);
-    fill(regions, counts.elements, elements, region);
+    let x = Axis::new(bounds.min_x, bounds.max_x, cells.nx);
+    let y = Axis::new(bounds.min_y, bounds.max_y, cells.ny);
+    let z = Axis::new(heights.bottom, heights.top, cells.nz);
+    let elements = cells.elements();
+    write_nodes(lists, counts.nodes, x, y, z);
+    let hex = u8::from(ElementType::Hex);
+    fill(lists.kinds, counts.elements, elements, hex);
+    write_hexes(lists.places, 8 * counts.elements, counts.nodes, cells);
+    fill(lists.regions, counts.elements, elements, region);
     Counts {
-        nodes: counts.nodes + nodes,
+        nodes: counts.nodes + cells.nodes(),
         elements: counts.elements + elements,
     }
 }
@@ -172,36 +124,16 @@ fn write_box(
 // Meshes a box region: its hexes are appended after the nodes and elements counted, with the region's number; 16, 15, 1, 5, 1, 6, 7, 12.
 pub fn mesh_box(
     bounds: Bbox,
-    z_bottom: f64,
-    z_top: f64,
+    heights: Heights,
     material: Material,
     region: u32,
     config: MeshConfig,
     counts: Counts,
-    xs: &mut [f64],
-    ys: &mut [f64],
-    zs: &mut [f64],
-    kinds: &mut [u8],
-    places: &mut [u32],
-    regions: &mut [u32],
+    lists: &mut MeshLists<'_>,
 ) -> Result<Counts, Refusal>
-    ensures { Adds (spec.mesh_box bounds z_bottom z_top material.0 config counts (the_mesh xs.old ys.old zs.old kinds.old places.old regions.old)) counts region (the_mesh xs.old ys.old zs.old kinds.old places.old regions.old) (the_mesh xs.new ys.new zs.new kinds.new places.new regions.new) result }
+    ensures mesh { Adds (spec.mesh_box bounds heights.bottom heights.top material.0 config counts (held lists.old)) counts region (held lists.old) (held lists.new) result }
+    ensures same { Same lists.old lists.new }
 {
-    let cells = box_check(
-        bounds,
-        z_bottom,
-        z_top,
-        material,
-        config,
-        counts,
-        xs.len(),
-        ys.len(),
-        zs.len(),
-        kinds.len(),
-        places.len(),
-        regions.len(),
-    )?;
-    Ok(write_box(
-        bounds, z_bottom, z_top, region, counts, cells, xs, ys, zs, kinds, places, regions,
-    ))
+    let cells = box_check(bounds, heights, material, config, counts, lists)?;
+    Ok(write_box(bounds, heights, region, counts, cells, lists))
 }

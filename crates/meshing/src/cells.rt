@@ -1,7 +1,8 @@
 // Cells and coordinates on an axis.
-ghost use Rattle.std.specs.Prelude.{◌≡◌, ◌≤◌};
+ghost use Rattle.std.specs.Prelude.{◌≡◌, ◌≤◌, ◌+◌, ◌*◌};
 ghost use Rattle.binary64.specs.Numbers.{◌⊖◌, ◌⊘◌};
 ghost use Rattle.openrdson_core.specs.Answers.{answer};
+ghost use Rattle.meshing.specs.Grid.{grid_nodes, grid_cells};
 ghost use Rattle.meshing.specs.Cells as spec;
 
 use openrdson_core::Refusal;
@@ -57,7 +58,7 @@ pub fn axis_coordinate(min: f64, max: f64, cell: f64, place: usize) -> Result<f6
     if place > n {
         return Err(Refusal::OutsideList);
     }
-    Ok(axis_at(min, max, n, place))
+    Ok(Axis::new(min, max, n).at(place))
 }
 
 // The cells of an extent, both in range: 5, 6, 7.
@@ -86,32 +87,72 @@ pub fn cells_for(extent: f64, cell: f64) -> usize
     binary64::ceil_capped(extent / cell * ALMOST_ONE).max(1) as usize
 }
 
-// The coordinate at place i of the axis from min to max in n cells.
-pub fn axis_at(min: f64, max: f64, n: usize, i: usize) -> f64
-    requires { (i ≤ n) × (n ≤ 4096) }
-    ensures { result ≡ spec.axis_at min max n i }
-{
-    step_at(min, max, axis_step(min, max, n), n, i)
+// How many cells a box has along x, y and z.
+#[derive(Clone, Copy)]
+pub struct Cells {
+    pub nx: usize,
+    pub ny: usize,
+    pub nz: usize,
+    ghost few: { (nx ≤ 4096) × (ny ≤ 4096) × (nz ≤ 4096) },
 }
 
-// How long a cell is on an axis of n cells.
-pub fn axis_step(low: f64, high: f64, n: usize) -> f64
-    requires { n ≤ 4096 }
-    ensures { result ≡ (high ⊖ low) ⊘ spec.real n }
-{
-    let cells = n as u32;
-    (high - low) / (cells as f64)
-}
-
-// The coordinate at place i of an axis of n cells, each a step long; the last is exactly high. A u32 is turned into a float more quickly than a usize.
-#[tactic(auto, using(crate::proofs::GridLaws::axis_inner, crate::proofs::GridLaws::axis_last))]
-pub fn step_at(low: f64, high: f64, step: f64, n: usize, i: usize) -> f64
-    requires { (i ≤ n) × (n ≤ 4096) × (step ≡ (high ⊖ low) ⊘ spec.real n) }
-    ensures { result ≡ spec.axis_at low high n i }
-{
-    if i == n {
-        return high;
+impl Cells {
+    // How many nodes the box has.
+    #[tactic(auto, using(crate::proofs::BoxLaws::cube_fits))]
+    pub fn nodes(self) -> usize
+        ensures { result ≡ grid_nodes self.nx self.ny self.nz }
+    {
+        (self.nx + 1) * (self.ny + 1) * (self.nz + 1)
     }
-    let place = i as u32;
-    low + step * (place as f64)
+
+    // How many elements it has.
+    #[tactic(auto, using(crate::proofs::BoxLaws::cube_fits))]
+    pub fn elements(self) -> usize
+        ensures { result ≡ grid_cells self.nx self.ny self.nz }
+    {
+        self.nx * self.ny * self.nz
+    }
+}
+
+// An axis in cells, each a step long.
+#[derive(Clone, Copy)]
+pub struct Axis {
+    pub low: f64,
+    pub high: f64,
+    pub step: f64,
+    pub cells: usize,
+    ghost few: { cells ≤ 4096 },
+    ghost even: { step ≡ (high ⊖ low) ⊘ spec.real cells },
+}
+
+impl Axis {
+    // The axis from low to high.
+    pub fn new(low: f64, high: f64, cells: usize) -> Self
+        requires { cells ≤ 4096 }
+        ensures low { result.low ≡ low }
+        ensures high { result.high ≡ high }
+        ensures cells { result.cells ≡ cells }
+    {
+        let n = cells as u32;
+        let step = (high - low) / (n as f64);
+        Axis {
+            low,
+            high,
+            step,
+            cells,
+        }
+    }
+
+    // The coordinate at place i; the last is exactly high. A u32 is turned into a float more quickly than a usize.
+    #[tactic(auto, using(crate::proofs::GridLaws::axis_inner, crate::proofs::GridLaws::axis_last))]
+    pub fn at(self, i: usize) -> f64
+        requires { i ≤ self.cells }
+        ensures { result ≡ spec.axis_at self.low self.high self.cells i }
+    {
+        if i == self.cells {
+            return self.high;
+        }
+        let place = i as u32;
+        self.low + self.step * (place as f64)
+    }
 }

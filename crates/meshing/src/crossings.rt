@@ -1,47 +1,44 @@
-// The edges of a ring that cross a height, from left to right. Edge e runs from vertex e to the next.
-ghost use Rattle.std.specs.Prelude.{◌≡◌, true, not, ◌&&◌, ◌||◌, ◌++◌, ◌+◌, ◌≤◌, ◌<◌, ltb, length, take, drop, get_or};
-ghost use Rattle.std.specs.Float.Ieee.{lt};
+// The edges of a ring that cross a height, from left to right. Edge e runs from vertex e to the next. The list of edges is room that all bands share, so
+// a function that fills its start says how many it filled; `at` is room for one sort, and no part of what goes from band to band.
+ghost use Rattle.std.specs.Prelude.{◌≡◌, ◌+◌, ◌≤◌, ◌<◌, length, take, drop, get_or, is_some};
 ghost use Rattle.lists.specs.Lists.{Below, elems, passing};
 ghost use Rattle.lists.specs.Counts.{SameEntries};
-ghost use Rattle.lists.specs.Sorts.{slot, insert_at, sort_by, or_number};
+ghost use Rattle.lists.specs.Sorts.{slot, insert_at};
 ghost use Rattle.binary64.specs.Numbers.{at as entry};
 ghost use Rattle.meshing.specs.Crossings as spec;
 
-use crate::ring::{next_place, point_at};
-use openrdson_core::Point;
+use crate::ring::next_place;
+use openrdson_core::{Point, Ring};
 
 // Of edges that span the height `below`, in any order, the first m of `edges`: makes them those that cross the height y, from left to right, and counts
 // them; none if one crosses it where document 01 admits no number.
-// The edges of one band are nearly those of the next, in nearly the same order. For callers that have checked the ring.
+// The edges of one band are nearly those of the next, in nearly the same order. The list is room that the bands share, so m goes with it.
 pub fn cross(
-    xs: &[f64],
-    ys: &[f64],
+    ring: Ring<'_>,
     below: f64,
     y: f64,
     edges: &mut [usize],
     at: &mut [f64],
     m: usize,
 ) -> Option<usize>
-    requires { (length ys.now ≡ length xs.now) × (length ys.now ≤ length edges.old) × (length ys.now ≤ length at.old) × (m ≤ length edges.old) × SameEntries (take m edges.old) (spec.spanning ys.now below) }
-    ensures { spec.CrossedAs xs.now ys.now y result edges.new }
+    requires { (length ring.ys.now ≤ length edges.old) × (length ring.ys.now ≤ length at.old) × (m ≤ length edges.old) × SameEntries (take m edges.old) (spec.spanning ring.ys.now below) }
+    ensures { spec.CrossedAs ring.entry.xs.now ring.entry.ys.now y result edges.new }
 {
-    let count = next_edges(xs, ys, below, y, edges, m);
-    if sort_crossings(xs, ys, y, &mut edges[..count], at) {
-        return Some(count);
-    }
-    None
+    let count = next_edges(ring, below, y, edges, m);
+    sort_crossings(ring, y, &mut edges[..count], at)?;
+    Some(count)
 }
 
 // Of edges that span the height `below`, in any order, the first m of `edges`: makes them those that span the height y, and counts them: first those
 // that were there, in their order, then the new ones.
 #[tactic(auto, using(crate::proofs::CrossingLaws::spanning_below, crate::proofs::CrossingLaws::next_most, crate::proofs::CrossingLaws::next_spanning, lists::proofs::Parts::between_lent, lists::proofs::Passing::same_between, lists::proofs::Places::below_drop))]
-fn next_edges(xs: &[f64], ys: &[f64], below: f64, y: f64, edges: &mut [usize], m: usize) -> usize
-    requires { (length ys.now ≡ length xs.now) × (length ys.now ≤ length edges.old) × (m ≤ length edges.old) × SameEntries (take m edges.old) (spec.spanning ys.now below) }
-    ensures { SameEntries (take result edges.new) (spec.spanning ys.now y) × (result ≤ length ys.now) }
+fn next_edges(ring: Ring<'_>, below: f64, y: f64, edges: &mut [usize], m: usize) -> usize
+    requires { (length ring.ys.now ≤ length edges.old) × (m ≤ length edges.old) × SameEntries (take m edges.old) (spec.spanning ring.ys.now below) }
+    ensures { SameEntries (take result edges.new) (spec.spanning ring.entry.ys.now y) × (result ≤ length ring.entry.ys.now) }
 {
-    let kept = keep_spanning(ys, y, edges, m);
-    let count = add_spanning(ys, below, y, edges, kept);
-    turn_if_falling(xs, ys, y, &mut edges[kept..count]);
+    let kept = keep_spanning(ring.ys, y, &mut edges[..m]);
+    let count = kept + add_spanning(ring.ys, below, y, &mut edges[kept..]);
+    turn_if_falling(ring, y, &mut edges[kept..count]);
     count
 }
 
@@ -54,13 +51,13 @@ fn spans(ys: &[f64], y: f64, e: usize) -> bool
     (ys[e] <= y) != (ys[f] <= y)
 }
 
-// Of the first m edges, keeps those that span the height y, and counts them.
-fn keep_spanning(ys: &[f64], y: f64, edges: &mut [usize], m: usize) -> usize
-    requires { (m ≤ length edges.old) × Below (length ys.now) (take m edges.old) }
-    ensures { (take result edges.new ≡ passing (spec.spans ys.now y) (take m edges.old)) × (result ≤ m) }
+// Moves the edges that span the height y to the start of the list, and counts them.
+fn keep_spanning(ys: &[f64], y: f64, edges: &mut [usize]) -> usize
+    requires { Below (length ys.now) edges.old }
+    ensures { (take result edges.new ≡ passing (spec.spans ys.now y) edges.old) × (result ≤ length edges.old) }
 {
     let mut count = 0;
-    for i in 0..m {
+    for i in 0..edges.len() {
         let e = edges[i];
         if spans(ys, y, e) {
             edges[count] = e;
@@ -70,17 +67,17 @@ fn keep_spanning(ys: &[f64], y: f64, edges: &mut [usize], m: usize) -> usize
     count
 }
 
-// Adds to the first m edges those that span the height y and not the height `below`, and counts all.
-fn add_spanning(ys: &[f64], below: f64, y: f64, edges: &mut [usize], m: usize) -> usize
-    requires { m + length (passing (spec.new_at ys.now below y) (elems (length ys.now) (λ e. e))) ≤ length edges.old }
-    ensures { (take result edges.new ≡ take m edges.old ++ passing (spec.new_at ys.now below y) (elems (length ys.now) (λ e. e)))
-        × (result ≡ m + length (passing (spec.new_at ys.now below y) (elems (length ys.now) (λ e. e)))) }
+// Writes the edges that span the height y and not the height `below` over the start of the list, and counts them.
+fn add_spanning(ys: &[f64], below: f64, y: f64, edges: &mut [usize]) -> usize
+    requires { length (passing (spec.new_at ys.now below y) (elems (length ys.now) (λ e. e))) ≤ length edges.old }
+    ensures { (take result edges.new ≡ passing (spec.new_at ys.now below y) (elems (length ys.now) (λ e. e)))
+        × (result ≡ length (passing (spec.new_at ys.now below y) (elems (length ys.now) (λ e. e)))) }
 {
     let n = ys.len();
     if n == 0 {
-        return m;
+        return 0;
     }
-    let mut count = m;
+    let mut count = 0;
     let first_low = ys[0] <= y;
     let mut is_low = first_low;
     for e in 0..n {
@@ -107,47 +104,49 @@ fn line_at(a: Point, b: Point, y: f64) -> f64
 
 // x at the height y on edge e.
 #[tactic(auto, unfolding(crate::specs::Crossings::edge_at))]
-pub fn edge_at(xs: &[f64], ys: &[f64], y: f64, e: usize) -> f64
-    requires { (length ys.now ≡ length xs.now) × (e < length xs.now) }
-    ensures { result ≡ spec.edge_at xs.now ys.now y e }
+pub fn edge_at(ring: Ring<'_>, y: f64, e: usize) -> f64
+    requires { e < length ring.xs.now }
+    ensures { result ≡ spec.edge_at ring.entry.xs.now ring.entry.ys.now y e }
 {
-    let f = next_place(ys.len(), e);
-    line_at(point_at(xs, ys, e), point_at(xs, ys, f), y)
+    let f = next_place(ring.ys.len(), e);
+    line_at(ring.point(e), ring.point(f), y)
 }
 
 // Turns the edges round if the last crosses the height left of the first: those of a comb may come from right to left.
+// That the edges are the ring's is asked for, here and where they are kept and sorted: a type could not hold it while they move.
 #[tactic(auto, using(lists::proofs::Places::below_at, lists::proofs::Counts::total_reverse))]
-fn turn_if_falling(xs: &[f64], ys: &[f64], y: f64, edges: &mut [usize])
-    requires { (length ys.now ≡ length xs.now) × Below (length xs.now) edges.old }
+fn turn_if_falling(ring: Ring<'_>, y: f64, edges: &mut [usize])
+    requires { Below (length ring.xs.now) edges.old }
     ensures { SameEntries edges.new edges.old }
 {
     let m = edges.len();
     if m < 2 {
         return;
     }
-    if edge_at(xs, ys, y, edges[m - 1]) < edge_at(xs, ys, y, edges[0]) {
+    if edge_at(ring, y, edges[m - 1]) < edge_at(ring, y, edges[0]) {
         edges.reverse();
     }
 }
 
-// Sorts the edges by x at the height y, and those that cross it at one x by their number; false if one crosses it out of range.
+// Sorts the edges by x at the height y, and those that cross it at one x by their number; none if one crosses it out of range.
 #[tactic(auto, using(crate::proofs::CrossingLaws::sorting_start))]
-fn sort_crossings(xs: &[f64], ys: &[f64], y: f64, edges: &mut [usize], at: &mut [f64]) -> bool
-    requires { (length ys.now ≡ length xs.now) × (length edges.old ≤ length at.old) × Below (length xs.now) edges.old }
-    ensures { spec.SortedAs xs.now ys.now y edges.old result edges.new }
+fn sort_crossings(ring: Ring<'_>, y: f64, edges: &mut [usize], at: &mut [f64]) -> Option<()>
+    requires { (length edges.old ≤ length at.old) × Below (length ring.xs.now) edges.old }
+    ensures { spec.SortedAs ring.entry.xs.now ring.entry.ys.now y edges.old (is_some result) edges.new }
 {
     for i in 0..edges.len() {
         let e = edges[i];
-        let x = edge_at(xs, ys, y, e);
+        let x = edge_at(ring, y, e);
         if !binary64::coordinate_in_range(x) {
-            return false;
+            return None;
         }
         insert_crossing(edges, at, i, x, e);
     }
-    true
+    Some(())
 }
 
-// Puts e into the first m edges where it goes, and x into the first m of `at` at the same place. Later edges are kept.
+// Puts e into the first m edges where it goes, and x into the first m of `at` at the same place. Later edges are kept:
+// they are not sorted yet.
 #[tactic(auto, using(lists::proofs::Sorts::shift_start, lists::proofs::Sorts::shift_end, lists::proofs::Sorts::shift_past, lists::proofs::Sorts::stops_first))]
 fn insert_crossing(edges: &mut [usize], at: &mut [f64], m: usize, x: f64, e: usize)
     requires { (m < length edges.old) × (m < length at.old) }
@@ -170,7 +169,7 @@ fn insert_crossing(edges: &mut [usize], at: &mut [f64], m: usize, x: f64, e: usi
     edges[0] = e;
 }
 
-// Whether edge d, which crosses at x, goes before edge e, which crosses at z.
+// Whether edge d, which crosses at x, goes before edge e, which crosses at z. By hand: f64 has no total order, and this asks for neither `==` nor a number.
 fn goes_before(x: f64, d: usize, z: f64, e: usize) -> bool
     ensures { result ≡ spec.goes_before x d z e }
 {

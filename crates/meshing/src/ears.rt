@@ -1,5 +1,5 @@
-// Ear clipping: the tests of the ear rule, the search for the first ear, and the cutting.
-ghost use Rattle.std.specs.Prelude.{◌+◌, ◌-◌, ◌*◌, ◌≤◌, ◌<◌, ◌≡◌, [], ◌∷◌, length, take, drop};
+// Ear clipping: the tests of the ear rule, the search for the first ear, and the cutting. A walk is a list of vertex numbers, since these are the answer.
+ghost use Rattle.std.specs.Prelude.{ℕ, ◌+◌, ◌-◌, ◌*◌, ◌≤◌, ◌<◌, ◌≡◌, [], ◌∷◌, length, get_or, take, drop};
 ghost use Rattle.std.specs.Float.Ieee.{lt};
 ghost use Rattle.lists.specs.Answer.{map_answer};
 ghost use Rattle.lists.specs.Lists.{Below, put};
@@ -9,8 +9,16 @@ ghost use Rattle.meshing.specs.Triangles.{corners};
 ghost use Rattle.meshing.specs.Clipping.{triangle_at, without, clip};
 ghost use Rattle.meshing.specs.Ears as spec;
 
-use crate::ring::{next_place, point_at, prev_place};
-use openrdson_core::{Point, Refusal};
+use crate::ring::{next_place, prev_place};
+use openrdson_core::{Point, Refusal, Ring};
+
+// What remains of a walk round a ring: the numbers of its vertices.
+#[derive(Clone, Copy)]
+struct Walk<'a> {
+    ring: Ring<'a>,
+    vertices: &'a [usize],
+    ghost below: { (i : ℕ) → i < length vertices.now → get_or vertices.now i 0 < length ring.xs.now },
+}
 
 // On which side of the line from a to b the point p lies.
 fn side(p: Point, a: Point, b: Point) -> f64
@@ -44,16 +52,11 @@ fn turns_left(a: Point, b: Point, c: Point) -> bool
 
 // Whether vertex j is none of a, b and c, and lies inside or on their triangle.
 #[tactic(auto, unfolding(crate::specs::Ears::blocks))]
-fn is_blocking(xs: &[f64], ys: &[f64], a: usize, b: usize, c: usize, j: usize) -> bool
-    requires { (length ys.now ≡ length xs.now) × (a < length xs.now) × (b < length xs.now) × (c < length xs.now) × (j < length xs.now) }
-    ensures { result ≡ spec.blocks xs.now ys.now a b c j }
+fn is_blocking(ring: Ring<'_>, a: usize, b: usize, c: usize, j: usize) -> bool
+    requires { (a < length ring.xs.now) × (b < length ring.xs.now) × (c < length ring.xs.now) × (j < length ring.xs.now) }
+    ensures { result ≡ spec.blocks ring.entry.xs.now ring.entry.ys.now a b c j }
 {
-    if !point_in_triangle(
-        point_at(xs, ys, j),
-        point_at(xs, ys, a),
-        point_at(xs, ys, b),
-        point_at(xs, ys, c),
-    ) {
+    if !point_in_triangle(ring.point(j), ring.point(a), ring.point(b), ring.point(c)) {
         return false;
     }
     !((j == a) | (j == b) | (j == c))
@@ -61,16 +64,14 @@ fn is_blocking(xs: &[f64], ys: &[f64], a: usize, b: usize, c: usize, j: usize) -
 
 // Whether no vertex of the walk blocks the triangle a b c. The scan ends at the first that does.
 #[tactic(auto, using(lists::proofs::Scans::all_start, lists::proofs::Scans::all_more, lists::proofs::Places::below_at), unfolding(crate::specs::Ears::is_clear))]
-fn is_clear(xs: &[f64], ys: &[f64], walk: &[usize], a: usize, b: usize, c: usize) -> bool
-    requires same { length ys.now ≡ length xs.now }
-    requires walk { Below (length xs.now) walk.now }
-    requires a { a < length xs.now }
-    requires b { b < length xs.now }
-    requires c { c < length xs.now }
-    ensures { result ≡ spec.is_clear xs.now ys.now walk.now a b c }
+fn is_clear(walk: Walk<'_>, a: usize, b: usize, c: usize) -> bool
+    requires a { a < length walk.ring.xs.now }
+    requires b { b < length walk.ring.xs.now }
+    requires c { c < length walk.ring.xs.now }
+    ensures { result ≡ spec.is_clear walk.entry.ring.xs.now walk.entry.ring.ys.now walk.entry.vertices.now a b c }
 {
-    for &j in walk {
-        if is_blocking(xs, ys, a, b, c, j) {
+    for &j in walk.vertices {
+        if is_blocking(walk.ring, a, b, c, j) {
             return false;
         }
     }
@@ -79,32 +80,25 @@ fn is_clear(xs: &[f64], ys: &[f64], walk: &[usize], a: usize, b: usize, c: usize
 
 // Whether the vertex at place i of a walk is an ear: its corner turns left, and no other vertex blocks it.
 #[tactic(auto, using(lists::proofs::Places::below_at), unfolding(crate::specs::Ears::is_ear_of))]
-fn is_ear(xs: &[f64], ys: &[f64], walk: &[usize], i: usize) -> bool
-    requires same { length ys.now ≡ length xs.now }
-    requires walk { Below (length xs.now) walk.now }
-    requires place { i < length walk.now }
-    ensures { result ≡ spec.is_ear xs.now ys.now walk.now i }
+fn is_ear(walk: Walk<'_>, i: usize) -> bool
+    requires { i < length walk.vertices.now }
+    ensures { result ≡ spec.is_ear walk.entry.ring.xs.now walk.entry.ring.ys.now walk.entry.vertices.now i }
 {
-    let m = walk.len();
-    let a = walk[prev_place(m, i)];
-    let b = walk[i];
-    let c = walk[next_place(m, i)];
-    turns_left(
-        point_at(xs, ys, a),
-        point_at(xs, ys, b),
-        point_at(xs, ys, c),
-    ) && is_clear(xs, ys, walk, a, b, c)
+    let m = walk.vertices.len();
+    let a = walk.vertices[prev_place(m, i)];
+    let b = walk.vertices[i];
+    let c = walk.vertices[next_place(m, i)];
+    let ring = walk.ring;
+    turns_left(ring.point(a), ring.point(b), ring.point(c)) && is_clear(walk, a, b, c)
 }
 
 // The place of the first ear from the walk's start on.
 #[tactic(auto, using(lists::proofs::Searches::search_start, lists::proofs::Searches::search_more, lists::proofs::Searches::search_found, lists::proofs::Searches::search_end))]
-fn first_ear(xs: &[f64], ys: &[f64], walk: &[usize]) -> Option<usize>
-    requires same { length ys.now ≡ length xs.now }
-    requires walk { Below (length xs.now) walk.now }
-    ensures { result ≡ spec.first_ear xs.now ys.now walk.now }
+fn first_ear(walk: Walk<'_>) -> Option<usize>
+    ensures { result ≡ spec.first_ear walk.entry.ring.xs.now walk.entry.ring.ys.now walk.entry.vertices.now }
 {
-    for i in 0..walk.len() {
-        if is_ear(xs, ys, walk, i) {
+    for i in 0..walk.vertices.len() {
+        if is_ear(walk, i) {
             return Some(i);
         }
     }
@@ -132,14 +126,16 @@ fn put_triangle(out: &mut [u32], t: usize, a: usize, b: usize, c: usize)
 }
 
 // Cuts ears off a walk until three vertices remain, and writes the corners of all triangles; 4 where there is no ear. The walk is used up. For callers
-// whose walk is of a ring's vertices and has three or more, and who have room for the corners.
-pub fn clip_walk(xs: &[f64], ys: &[f64], walk: &mut [usize], out: &mut [u32]) -> Result<(), Refusal>
-    requires { (length ys.now ≡ length xs.now) × (length xs.now ≤ 512) × (3 ≤ length walk.old) × Below (length xs.now) walk.old × ((length walk.old - 2) * 3 ≤ length out.old) }
-    ensures { map_answer (λ _. take ((length walk.old - 2) * 3) out.new) (answer result) ≡ map_answer corners (clip (spec.is_ear xs.now ys.now) walk.old) }
+// whose walk is of a ring's vertices and has three or more, and who have room for the corners. The room goes with
+// the ring's length, so a type for it would hold no more.
+pub fn clip_walk(ring: Ring<'_>, walk: &mut [usize], out: &mut [u32]) -> Result<(), Refusal>
+    requires { (3 ≤ length walk.old) × Below (length ring.xs.now) walk.old × ((length walk.old - 2) * 3 ≤ length out.old) }
+    ensures { map_answer (λ _. take ((length walk.old - 2) * 3) out.new) (answer result) ≡ map_answer corners (clip (spec.is_ear ring.entry.xs.now ring.entry.ys.now) walk.old) }
 {
     let last = walk.len() - 3;
     for at in 0..last {
-        let i = first_ear(xs, ys, &walk[at..]).ok_or(Refusal::ClippingStalled)?;
+        let vertices = &walk[at..];
+        let i = first_ear(Walk { ring, vertices }).ok_or(Refusal::ClippingStalled)?;
         cut_ear(&mut walk[at..], i, out, at * 3);
     }
     put_triangle(out, last * 3, walk[last], walk[last + 1], walk[last + 2]);

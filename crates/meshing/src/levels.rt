@@ -1,10 +1,17 @@
-// The heights between which the scanline has its bands.
-ghost use Rattle.std.specs.Prelude.{◌≡◌, true, ◌+◌, ◌≤◌, ◌<◌, length, take};
+// The heights between which the scanline has its bands. They grow in room that is lent, so a function says how many entries of it count.
+ghost use Rattle.std.specs.Prelude.{◌≡◌, true, ◌+◌, ◌-◌, ◌≤◌, ◌<◌, length, take};
 ghost use Rattle.std.specs.Float.Ieee.{lt};
 ghost use Rattle.lists.specs.Lists.{all_of};
 ghost use Rattle.lists.specs.Sorts.{slot, insert_at, insert_by};
 ghost use Rattle.binary64.specs.Numbers.{at as entry, at_most};
 ghost use Rattle.meshing.specs.Levels as spec;
+
+// From one level to the next.
+#[derive(Clone, Copy)]
+pub struct Band {
+    pub low: f64,
+    pub high: f64,
+}
 
 // Fills the start of `out` with the levels of ys, in rising order, and counts them. For callers that have checked the ring and found room.
 pub fn level_list(ys: &[f64], out: &mut [f64]) -> usize
@@ -15,10 +22,11 @@ pub fn level_list(ys: &[f64], out: &mut [f64]) -> usize
     for i in 0..ys.len() {
         count = add_level(out, count, ys[i]);
     }
-    drop_close(out, count)
+    drop_close(&mut out[..count])
 }
 
 // Puts y among the first m of l, which rise, unless one of them equals it: that one comes to the same levels. Gives how many there are then.
+// One caller has the list and how many of it count: a struct of the two would be no plainer.
 fn add_level(l: &mut [f64], m: usize, y: f64) -> usize
     requires { (m < length l.old) × (all_of (at_most 20) (take m l.old) ≡ true) × (at_most 20 y ≡ true) }
     ensures { spec.LevelsAlike (take result l.new) (insert_by lt y (take m l.old)) × (all_of (at_most 20) (take result l.new) ≡ true) × (result ≤ m + 1) }
@@ -27,7 +35,7 @@ fn add_level(l: &mut [f64], m: usize, y: f64) -> usize
     if k > 0 && l[k - 1] == y {
         return m;
     }
-    insert_level(l, m, k, y);
+    insert_level(&mut l[..m + 1], k, y);
     m + 1
 }
 
@@ -43,28 +51,29 @@ fn level_slot(l: &[f64], y: f64) -> usize
     0
 }
 
-// Puts y at place k of the first m of l; those from k on move one to the right.
-fn insert_level(l: &mut [f64], m: usize, k: usize, y: f64)
-    requires { (k ≤ m) × (m < length l.old) }
-    ensures { take (m + 1) l.new ≡ insert_at k y (take m l.old) }
+// Puts y at place k of l; those from k on move one to the right, and the last falls out. Each moves once: arrayvec's `insert` turns them round, with
+// several moves each.
+fn insert_level(l: &mut [f64], k: usize, y: f64)
+    requires { k < length l.old }
+    ensures { l.new ≡ insert_at k y (take (length l.old - 1) l.old) }
 {
-    for j in (k..m).rev() {
+    for j in (k..l.len() - 1).rev() {
         l[j + 1] = l[j];
     }
     l[k] = y;
 }
 
-// Of the first m of l, drops those within 1e-15 of the last kept, and counts those kept.
-fn drop_close(l: &mut [f64], m: usize) -> usize
-    requires { m ≤ length l.old }
-    ensures { (take result l.new ≡ spec.apart (take m l.old)) × (result ≤ m) }
+// Moves those of l that are not within 1e-15 of the last kept to its start, and counts them.
+fn drop_close(l: &mut [f64]) -> usize
+    ensures { (take result l.new ≡ spec.apart l.old) × (result ≤ length l.old) }
 {
-    if m == 0 {
+    let n = l.len();
+    if n == 0 {
         return 0;
     }
     let mut last = l[0];
     let mut count = 1;
-    for i in 1..m {
+    for i in 1..n {
         let y = l[i];
         if !(binary64::abs(y - last) < 1e-15) {
             l[count] = y;

@@ -22,7 +22,7 @@ mod writes;
 
 pub use boxes::mesh_box;
 pub use cells::{MeshConfig, axis_coordinate, cell_count};
-pub use model::{mesh_model, mesh_model_with_options};
+pub use model::{Overrides, mesh_model, mesh_model_with_options};
 pub use prism::mesh_prism;
 pub use region::mesh_region;
 pub use ring::dedup_ring;

@@ -1,361 +1,190 @@
 // Meshing a model: every region of a region list, with cell sizes by material.
-ghost use Rattle.std.specs.Prelude.{◌≡◌, true, ◌≤◌, ◌<◌, length};
-ghost use Rattle.lists.specs.Answer.{given, left, status};
+ghost use Rattle.std.specs.Prelude.{◌≡◌, ◌≤◌, ◌<◌, length, IfOk};
+ghost use Rattle.lists.specs.Answer.{map_answer};
 ghost use Rattle.lists.specs.Lists.{all_of};
-ghost use Rattle.openrdson_core.specs.Mesh.{the_mesh};
+ghost use Rattle.openrdson_core.specs.Mesh.{held, Same};
 ghost use Rattle.openrdson_core.specs.Answers.{answer};
-ghost use Rattle.geometry.specs.Regions.{the_regions, Even};
+ghost use Rattle.geometry.specs.Regions.{listed};
 ghost use Rattle.meshing.specs.Added.{Adds};
 ghost use Rattle.meshing.specs.Models as spec;
 
 use crate::cells::MeshConfig;
 use crate::region::mesh_region;
-use geometry::{are_regions_even, region_at};
-use openrdson_core::{Counts, Refusal, counts_within, lists_parallel};
+use geometry::{EvenRegions, LARGEST_MATERIAL, Regions};
+use openrdson_core::{Counts, Material, MeshLists, Points, Refusal};
 
-// The cell sizes of a material: those of the last override that names it, or else the default.
-fn config_for(
-    materials: &[u32],
-    laterals: &[f64],
-    verticals: &[f64],
+// The cell sizes of some materials.
+#[derive(Clone, Copy)]
+pub struct Overrides<'a> {
+    pub materials: &'a [u32],
+    pub laterals: &'a [f64],
+    pub verticals: &'a [f64],
+}
+
+// The same in equally long lists.
+#[derive(Clone, Copy)]
+struct EvenOverrides<'a> {
+    lists: Overrides<'a>,
+    ghost even: { (length lists.laterals.now ≡ length lists.materials.now) × (length lists.verticals.now ≡ length lists.materials.now) },
+}
+
+// What a model is meshed from.
+#[derive(Clone, Copy)]
+struct Job<'a> {
+    regions: EvenRegions<'a>,
+    points: Points<'a>,
+    overrides: EvenOverrides<'a>,
     config: MeshConfig,
-    material: u32,
-) -> MeshConfig
-    requires { (length laterals.now ≡ length materials.now) × (length verticals.now ≡ length materials.now) }
-    ensures { result ≡ spec.config_for (spec.the_overrides materials.now laterals.now verticals.now) config material }
-{
-    let mut found = config;
-    for i in 0..materials.len() {
-        if materials[i] == material {
-            found = MeshConfig {
-                lateral_cell: laterals[i],
-                z_cell: verticals[i],
+    ghost few: { length regions.lists.kinds.now ≤ 4096 },
+}
+
+impl Overrides<'_> {
+    // Whether the lists are equally long (16).
+    fn is_even(self) -> bool
+        ensures { result ≡ spec.even_overrides (spec.overrides_of self.entry) }
+    {
+        (self.laterals.len() == self.materials.len())
+            & (self.verticals.len() == self.materials.len())
+    }
+
+    // Whether each names a material (15).
+    fn are_named(self) -> bool
+        ensures { result ≡ all_of spec.named self.entry.materials.now }
+    {
+        self.materials.iter().all(|material| (1 <= *material) & (*material <= LARGEST_MATERIAL))
+    }
+}
+
+impl EvenOverrides<'_> {
+    // The cell sizes of a material: those of the last override that names it, or else the default ones.
+    fn config_for(self, material: Material, default: MeshConfig) -> MeshConfig
+        ensures { result ≡ spec.config_for (spec.overrides_of self.entry.lists) default material.0 }
+    {
+        let mut found = default;
+        for i in 0..self.lists.materials.len() {
+            if self.lists.materials[i] == material.0 {
+                found = MeshConfig {
+                    lateral_cell: self.lists.laterals[i],
+                    z_cell: self.lists.verticals[i],
+                };
+            }
+        }
+        found
+    }
+}
+
+impl Job<'_> {
+    // Meshes region i, whose elements carry its place.
+    fn mesh_row(
+        self,
+        i: usize,
+        counts: Counts,
+        lists: &mut MeshLists<'_>,
+    ) -> Result<Counts, Refusal>
+        requires { i < length self.regions.lists.kinds.now }
+        ensures mesh { Adds (spec.row_part (listed self.entry.regions.lists) self.entry.points.xs.now self.entry.points.ys.now (spec.overrides_of self.entry.overrides.lists) self.entry.config i counts (held lists.old)) counts i (held lists.old) (held lists.new) result }
+        ensures same { Same lists.old lists.new }
+    {
+        let Points { xs, ys, .. } = self.points;
+        let region = self.regions.region(xs.len(), i)?;
+        let config = self.overrides.config_for(region.material_id, self.config);
+        mesh_region(region, xs, ys, i as u32, config, counts, lists)
+    }
+
+    // Meshes every region, and gives the counts.
+    fn mesh_rows(self, counts: Counts, lists: &mut MeshLists<'_>, diagnostics: &mut [u32]) -> Counts
+        requires { length self.regions.lists.kinds.now ≤ length diagnostics.old }
+        ensures rows { spec.RunAs (spec.run_to (listed self.entry.regions.lists) self.entry.points.xs.now self.entry.points.ys.now (spec.overrides_of self.entry.overrides.lists) self.entry.config counts (held lists.old) (length self.entry.regions.lists.kinds.now)) result (held lists.new) diagnostics.old diagnostics.new }
+        ensures same { Same lists.old lists.new }
+    {
+        let mut so_far = counts;
+        for i in 0..self.regions.rows() {
+            let meshed = self.mesh_row(i, so_far, lists);
+            so_far = meshed.unwrap_or(so_far);
+            diagnostics[i] = match meshed {
+                Ok(_) => 0,
+                Err(why) => u32::from(why),
             };
         }
+        so_far
     }
-    found
 }
 
-// Whether every override names a material from 1 to 768.
-fn are_named(materials: &[u32]) -> bool
-    ensures { result ≡ all_of spec.named materials.now }
-{
-    materials
-        .iter()
-        .all(|material| (1 <= *material) & (*material <= 768))
-}
-
-// Meshes region i of a region list, whose elements carry its place. For callers that have found the lists equally long and row i in them.
-fn mesh_row(
-    row_kinds: &[u8],
-    min_x: &[f64],
-    min_y: &[f64],
-    max_x: &[f64],
-    max_y: &[f64],
-    z_bottom: &[f64],
-    z_top: &[f64],
-    starts: &[u32],
-    row_counts: &[u32],
-    row_materials: &[u32],
-    nets: &[u32],
-    polygons: &[u32],
-    point_x: &[f64],
-    point_y: &[f64],
-    materials: &[u32],
-    laterals: &[f64],
-    verticals: &[f64],
-    config: MeshConfig,
-    i: usize,
-    counts: Counts,
-    xs: &mut [f64],
-    ys: &mut [f64],
-    zs: &mut [f64],
-    kinds: &mut [u8],
-    places: &mut [u32],
-    regions: &mut [u32],
-) -> Result<Counts, Refusal>
-    requires { Even (the_regions row_kinds.now min_x.now min_y.now max_x.now max_y.now z_bottom.now z_top.now starts.now row_counts.now row_materials.now nets.now polygons.now) × (i < length row_kinds.now) × (i < 4096) × (length laterals.now ≡ length materials.now) × (length verticals.now ≡ length materials.now) }
-    ensures { Adds (spec.row_part (the_regions row_kinds.now min_x.now min_y.now max_x.now max_y.now z_bottom.now z_top.now starts.now row_counts.now row_materials.now nets.now polygons.now) point_x.now point_y.now (spec.the_overrides materials.now laterals.now verticals.now) config i counts (the_mesh xs.old ys.old zs.old kinds.old places.old regions.old)) counts i (the_mesh xs.old ys.old zs.old kinds.old places.old regions.old) (the_mesh xs.new ys.new zs.new kinds.new places.new regions.new) result }
-{
-    let region = region_at(
-        row_kinds,
-        min_x,
-        min_y,
-        max_x,
-        max_y,
-        z_bottom,
-        z_top,
-        starts,
-        row_counts,
-        row_materials,
-        nets,
-        polygons,
-        point_x.len(),
-        i,
-    )?;
-    let material = region.material_id.0;
-    let cells = config_for(materials, laterals, verticals, config, material);
-    mesh_region(
-        region, point_x, point_y, i as u32, cells, counts, xs, ys, zs, kinds, places, regions,
-    )
-}
-
-// Meshes every region of a region list, and gives the counts. For callers that have judged the job.
-fn mesh_rows(
-    row_kinds: &[u8],
-    min_x: &[f64],
-    min_y: &[f64],
-    max_x: &[f64],
-    max_y: &[f64],
-    z_bottom: &[f64],
-    z_top: &[f64],
-    starts: &[u32],
-    row_counts: &[u32],
-    row_materials: &[u32],
-    nets: &[u32],
-    polygons: &[u32],
-    point_x: &[f64],
-    point_y: &[f64],
-    materials: &[u32],
-    laterals: &[f64],
-    verticals: &[f64],
-    config: MeshConfig,
-    counts: Counts,
-    xs: &mut [f64],
-    ys: &mut [f64],
-    zs: &mut [f64],
-    kinds: &mut [u8],
-    places: &mut [u32],
-    regions: &mut [u32],
-    diagnostics: &mut [u32],
-) -> Counts
-    requires { Even (the_regions row_kinds.now min_x.now min_y.now max_x.now max_y.now z_bottom.now z_top.now starts.now row_counts.now row_materials.now nets.now polygons.now) × (length row_kinds.now ≤ 4096) × (length row_kinds.now ≤ length diagnostics.old) × (length laterals.now ≡ length materials.now) × (length verticals.now ≡ length materials.now) }
-    ensures { spec.RunAs (spec.run_to (the_regions row_kinds.now min_x.now min_y.now max_x.now max_y.now z_bottom.now z_top.now starts.now row_counts.now row_materials.now nets.now polygons.now) point_x.now point_y.now (spec.the_overrides materials.now laterals.now verticals.now) config counts (the_mesh xs.old ys.old zs.old kinds.old places.old regions.old) (length row_kinds.now)) result (the_mesh xs.new ys.new zs.new kinds.new places.new regions.new) diagnostics.old diagnostics.new }
-{
-    let mut so_far = counts;
-    for i in 0..row_kinds.len() {
-        let meshed = mesh_row(
-            row_kinds,
-            min_x,
-            min_y,
-            max_x,
-            max_y,
-            z_bottom,
-            z_top,
-            starts,
-            row_counts,
-            row_materials,
-            nets,
-            polygons,
-            point_x,
-            point_y,
-            materials,
-            laterals,
-            verticals,
-            config,
-            i,
-            so_far,
-            xs,
-            ys,
-            zs,
-            kinds,
-            places,
-            regions,
-        );
-        so_far = meshed.unwrap_or(so_far);
-        diagnostics[i] = match meshed {
-            Ok(_) => 0,
-            Err(why) => u32::from(why),
-        };
-    }
-    so_far
-}
-
-// Whether a job is meshed, by what is known of its lists: 16 for the region lists, the point lists, the overrides and the mesh; 2 for so many regions,
+// What is meshed, or why not: 16 for the region lists, the point lists, the overrides and the mesh; 2 for so many regions,
 // points and overrides; 15 for the counts, then for an override's material; 12 for the diagnostics.
-#[tactic(auto, unfolding(crate::specs::Models::model_judged))]
-fn model_check(
-    regions_even: bool,
-    points_even: bool,
-    overrides_even: bool,
-    mesh_parallel: bool,
-    regions: usize,
-    points: usize,
-    overrides: usize,
-    counts_in: bool,
-    overrides_named: bool,
+#[tactic(auto, using(crate::proofs::ModelLaws::even_lists), unfolding(crate::specs::Models::model_judged))]
+fn model_check<'a>(
+    regions: Regions<'a>,
+    xs: &'a [f64],
+    ys: &'a [f64],
+    overrides: Overrides<'a>,
+    config: MeshConfig,
+    counts: Counts,
+    lists: &MeshLists<'_>,
     diagnostics: usize,
-) -> Result<(), Refusal>
-    ensures { answer result ≡ spec.model_judged regions_even points_even overrides_even mesh_parallel regions points overrides counts_in overrides_named diagnostics }
+) -> Result<Job<'a>, Refusal>
+    ensures fault { map_answer (λ _. tt {0}) (answer result) ≡ spec.job_judged (listed regions.entry) xs.now ys.now (spec.overrides_of overrides.entry) counts (held lists.now) diagnostics }
+    ensures job { IfOk result (λ j. (listed j.regions.lists ≡ listed regions.entry) × (j.points.xs.now ≡ xs.now) × (j.points.ys.now ≡ ys.now) × (spec.overrides_of j.overrides.lists ≡ spec.overrides_of overrides.entry) × (j.config ≡ config)) }
+    ensures room { IfOk result (λ j. length j.regions.lists.kinds.now ≤ diagnostics) }
 {
-    if !(regions_even & points_even & overrides_even & mesh_parallel) {
+    if !(regions.is_even() & (xs.len() == ys.len()) & overrides.is_even() & lists.is_parallel()) {
         return Err(Refusal::UnequalLists);
     }
-    if !((regions <= 4096) & (points <= 2097152) & (overrides <= 4096)) {
+    let rows = regions.kinds.len();
+    if !((rows <= 4096) & (xs.len() <= 2097152) & (overrides.materials.len() <= 4096)) {
         return Err(Refusal::ListTooLong);
     }
-    if !(counts_in & overrides_named) {
+    if !(lists.holds(counts) & overrides.are_named()) {
         return Err(Refusal::OutsideList);
     }
-    if !(regions <= diagnostics) {
+    if !(rows <= diagnostics) {
         return Err(Refusal::OutputTooShort);
     }
-    Ok(())
+    Ok(Job {
+        regions: EvenRegions { lists: regions },
+        points: Points { xs, ys },
+        overrides: EvenOverrides { lists: overrides },
+        config,
+    })
 }
 
 // Meshes every region of a region list, with the cell sizes of the overrides, or else the default ones; a diagnostic for each region says 0 or its refusal.
 // 16, 2, 15, 12.
 pub fn mesh_model_with_options(
-    row_kinds: &[u8],
-    min_x: &[f64],
-    min_y: &[f64],
-    max_x: &[f64],
-    max_y: &[f64],
-    z_bottom: &[f64],
-    z_top: &[f64],
-    starts: &[u32],
-    row_counts: &[u32],
-    row_materials: &[u32],
-    nets: &[u32],
-    polygons: &[u32],
-    point_x: &[f64],
-    point_y: &[f64],
-    materials: &[u32],
-    laterals: &[f64],
-    verticals: &[f64],
+    regions: Regions<'_>,
+    xs: &[f64],
+    ys: &[f64],
+    overrides: Overrides<'_>,
     config: MeshConfig,
     counts: Counts,
-    xs: &mut [f64],
-    ys: &mut [f64],
-    zs: &mut [f64],
-    kinds: &mut [u8],
-    places: &mut [u32],
-    regions: &mut [u32],
+    lists: &mut MeshLists<'_>,
     diagnostics: &mut [u32],
 ) -> Result<Counts, Refusal>
-    ensures { spec.ModelAs (spec.mesh_model (the_regions row_kinds.now min_x.now min_y.now max_x.now max_y.now z_bottom.now z_top.now starts.now row_counts.now row_materials.now nets.now polygons.now) point_x.now point_y.now (spec.the_overrides materials.now laterals.now verticals.now) config counts (the_mesh xs.old ys.old zs.old kinds.old places.old regions.old) (length diagnostics.old)) (the_mesh xs.old ys.old zs.old kinds.old places.old regions.old) diagnostics.old result (the_mesh xs.new ys.new zs.new kinds.new places.new regions.new) diagnostics.new }
+    ensures model { spec.ModelAs (spec.mesh_model (listed regions.entry) xs.now ys.now (spec.overrides_of overrides.entry) config counts (held lists.old) (length diagnostics.old)) (held lists.old) diagnostics.old result (held lists.new) diagnostics.new }
+    ensures same { Same lists.old lists.new }
 {
-    let regions_even = are_regions_even(
-        row_kinds.len(),
-        min_x.len(),
-        min_y.len(),
-        max_x.len(),
-        max_y.len(),
-        z_bottom.len(),
-        z_top.len(),
-        starts.len(),
-        row_counts.len(),
-        row_materials.len(),
-        nets.len(),
-        polygons.len(),
-    );
-    let overrides_even = (laterals.len() == materials.len()) & (verticals.len() == materials.len());
-    let mesh_parallel = lists_parallel(
-        xs.len(),
-        ys.len(),
-        zs.len(),
-        kinds.len(),
-        places.len(),
-        regions.len(),
-    );
-    model_check(
-        regions_even,
-        point_x.len() == point_y.len(),
-        overrides_even,
-        mesh_parallel,
-        row_kinds.len(),
-        point_x.len(),
-        materials.len(),
-        counts_within(counts, xs.len(), kinds.len()),
-        are_named(materials),
-        diagnostics.len(),
-    )?;
-    Ok(mesh_rows(
-        row_kinds,
-        min_x,
-        min_y,
-        max_x,
-        max_y,
-        z_bottom,
-        z_top,
-        starts,
-        row_counts,
-        row_materials,
-        nets,
-        polygons,
-        point_x,
-        point_y,
-        materials,
-        laterals,
-        verticals,
-        config,
-        counts,
-        xs,
-        ys,
-        zs,
-        kinds,
-        places,
-        regions,
-        diagnostics,
-    ))
+    let room = diagnostics.len();
+    let job = model_check(regions, xs, ys, overrides, config, counts, lists, room)?;
+    Ok(job.mesh_rows(counts, lists, diagnostics))
 }
 
-// The same with no override.
+// The same with no override: document 01 names both calls.
 pub fn mesh_model(
-    row_kinds: &[u8],
-    min_x: &[f64],
-    min_y: &[f64],
-    max_x: &[f64],
-    max_y: &[f64],
-    z_bottom: &[f64],
-    z_top: &[f64],
-    starts: &[u32],
-    row_counts: &[u32],
-    row_materials: &[u32],
-    nets: &[u32],
-    polygons: &[u32],
-    point_x: &[f64],
-    point_y: &[f64],
+    regions: Regions<'_>,
+    xs: &[f64],
+    ys: &[f64],
     config: MeshConfig,
     counts: Counts,
-    xs: &mut [f64],
-    ys: &mut [f64],
-    zs: &mut [f64],
-    kinds: &mut [u8],
-    places: &mut [u32],
-    regions: &mut [u32],
+    lists: &mut MeshLists<'_>,
     diagnostics: &mut [u32],
 ) -> Result<Counts, Refusal>
-    ensures { spec.ModelAs (spec.mesh_model (the_regions row_kinds.now min_x.now min_y.now max_x.now max_y.now z_bottom.now z_top.now starts.now row_counts.now row_materials.now nets.now polygons.now) point_x.now point_y.now spec.no_overrides config counts (the_mesh xs.old ys.old zs.old kinds.old places.old regions.old) (length diagnostics.old)) (the_mesh xs.old ys.old zs.old kinds.old places.old regions.old) diagnostics.old result (the_mesh xs.new ys.new zs.new kinds.new places.new regions.new) diagnostics.new }
+    ensures model { spec.ModelAs (spec.mesh_model (listed regions.entry) xs.now ys.now spec.no_overrides config counts (held lists.old) (length diagnostics.old)) (held lists.old) diagnostics.old result (held lists.new) diagnostics.new }
+    ensures same { Same lists.old lists.new }
 {
-    let materials = [0u32; 0];
-    let sizes = [0.0; 0];
-    mesh_model_with_options(
-        row_kinds,
-        min_x,
-        min_y,
-        max_x,
-        max_y,
-        z_bottom,
-        z_top,
-        starts,
-        row_counts,
-        row_materials,
-        nets,
-        polygons,
-        point_x,
-        point_y,
-        &materials,
-        &sizes,
-        &sizes,
-        config,
-        counts,
-        xs,
-        ys,
-        zs,
-        kinds,
-        places,
-        regions,
-        diagnostics,
-    )
+    let none = Overrides {
+        materials: &[],
+        laterals: &[],
+        verticals: &[],
+    };
+    mesh_model_with_options(regions, xs, ys, none, config, counts, lists, diagnostics)
 }

@@ -1,23 +1,22 @@
-// Meshing a prism region: clipped into triangular prisms, or by the scanline.
-ghost use Rattle.std.specs.Prelude.{◌≡◌, true, false, ◌+◌, ◌-◌, ◌*◌, ◌≤◌, ◌<◌, length, take};
-ghost use Rattle.lists.specs.Answer.{given, and_then};
-ghost use Rattle.lists.specs.Lists.{put, elems, joined, Below};
-ghost use Rattle.openrdson_core.specs.Points.{ring_fault};
-ghost use Rattle.openrdson_core.specs.Mesh.{the_mesh, parallel, within};
+// Meshing a prism region: clipped into triangular prisms, or by the scanline. The counts and the lists go together, and `Grows` is asked of both: a struct
+// of them that keeps the fact was tried, and cannot be lent on.
+ghost use Rattle.std.specs.Prelude.{◌≡◌, false, ◌+◌, ◌-◌, ◌*◌, ◌≤◌, length, IfOk};
+ghost use Rattle.lists.specs.Answer.{given, map_answer};
+ghost use Rattle.lists.specs.Lists.{put, joined, Below, part};
+ghost use Rattle.openrdson_core.specs.Mesh.{held, Same};
 ghost use Rattle.openrdson_core.specs.Answers.{answer};
-ghost use Rattle.meshing.specs.Added.{Adds, fit_part};
+ghost use Rattle.meshing.specs.Added.{Adds, Grows, Appends};
 ghost use Rattle.meshing.specs.Triangles.{corners as corners_of, triples};
-ghost use Rattle.meshing.specs.Ring.{kept, gathered};
 ghost use Rattle.meshing.specs.Rectilinear.{is_rectilinear};
 ghost use Rattle.meshing.specs.Prisms as spec;
 
 use crate::rectilinear::ring_is_rectilinear;
 use crate::ring::{clean_into, is_clean};
-use crate::scanline::mesh_scanline;
+use crate::scanline::{Extrusion, mesh_scanline};
 use crate::triangulate::clip_ring;
 use crate::writes::{copy, fill, write_eight};
 use openrdson_core::{
-    Counts, Material, Refusal, UNUSED, counts_within, has_room, lists_parallel, ring_check,
+    Counts, Heights, Material, MeshLists, Points, Refusal, Ring, SoundRing, UNUSED, has_room,
 };
 
 // Writes the node places of the prisms on triangles, from place `at` on, where the n bottom nodes start at `base`.
@@ -49,43 +48,37 @@ fn write_prisms(places: &mut [u32], at: usize, base: usize, n: usize, corners: &
 // Meshes a ring by its triangles, where there is room: bottom nodes 0 to n - 1, top nodes n to 2n - 1; 12.
 #[tactic(auto, using(crate::proofs::PrismLaws::tris_no_nodes, crate::proofs::PrismLaws::tris_no_elements, crate::proofs::PrismLaws::room_in, crate::proofs::PrismLaws::triples_many, crate::proofs::BoxWrites::refused_adds))]
 fn mesh_tris(
-    xs: &[f64],
-    ys: &[f64],
+    extrusion: Extrusion<'_>,
     corners: &[u32],
-    z_bottom: f64,
-    z_top: f64,
     region: u32,
     counts: Counts,
-    nx: &mut [f64],
-    ny: &mut [f64],
-    nz: &mut [f64],
-    kinds: &mut [u8],
-    places: &mut [u32],
-    regions: &mut [u32],
+    lists: &mut MeshLists<'_>,
 ) -> Result<Counts, Refusal>
-    requires ring { (length ys.now ≡ length xs.now) × (length xs.now ≤ 512) × (corners_of (triples corners.now) ≡ corners.now) × Below (length xs.now) corners.now × (length corners.now ≤ 1530) }
-    requires lists { (parallel (the_mesh nx.old ny.old nz.old kinds.old places.old regions.old) ≡ true) × (within counts (the_mesh nx.old ny.old nz.old kinds.old places.old regions.old) ≡ true) }
-    ensures { Adds (fit_part counts (the_mesh nx.old ny.old nz.old kinds.old places.old regions.old) (spec.triangles_part counts.nodes z_bottom z_top xs.now ys.now (triples corners.now))) counts region (the_mesh nx.old ny.old nz.old kinds.old places.old regions.old) (the_mesh nx.new ny.new nz.new kinds.new places.new regions.new) result }
+    requires ring { (corners_of (triples corners.now) ≡ corners.now) × Below (length extrusion.ring.ring.xs.now) corners.now × (length corners.now ≤ 1530) }
+    requires grows { Grows counts (held lists.old) }
+    ensures mesh { Appends (given (spec.cut_part counts.nodes extrusion.entry (triples corners.now))) counts region (held lists.old) (held lists.new) result }
+    ensures same { Same lists.old lists.new }
 {
-    let n = xs.len();
+    let ring = extrusion.ring.ring;
+    let n = ring.xs.len();
     let triangles = corners.len() / 3;
-    if !has_room(n + n, counts.nodes, nx.len()) {
+    if !has_room(n + n, counts.nodes, lists.xs.len()) {
         return Err(Refusal::OutputTooShort);
     }
-    if !has_room(triangles, counts.elements, kinds.len()) {
+    if !has_room(triangles, counts.elements, lists.kinds.len()) {
         return Err(Refusal::OutputTooShort);
     }
     let bottom = counts.nodes;
     let top = counts.nodes + n;
-    copy(xs, nx, bottom);
-    copy(xs, nx, top);
-    copy(ys, ny, bottom);
-    copy(ys, ny, top);
-    fill(nz, bottom, n, z_bottom);
-    fill(nz, top, n, z_top);
-    fill(kinds, counts.elements, triangles, 2);
-    write_prisms(places, 8 * counts.elements, bottom, n, corners);
-    fill(regions, counts.elements, triangles, region);
+    copy(ring.xs, lists.xs, bottom);
+    copy(ring.xs, lists.xs, top);
+    copy(ring.ys, lists.ys, bottom);
+    copy(ring.ys, lists.ys, top);
+    fill(lists.zs, bottom, n, extrusion.heights.bottom);
+    fill(lists.zs, top, n, extrusion.heights.top);
+    fill(lists.kinds, counts.elements, triangles, 2);
+    write_prisms(lists.places, 8 * counts.elements, bottom, n, corners);
+    fill(lists.regions, counts.elements, triangles, region);
     Ok(Counts {
         nodes: top + n,
         elements: counts.elements + triangles,
@@ -95,323 +88,171 @@ fn mesh_tris(
 // Meshes a ring that is not rectilinear, cleaned once, by the triangles of the ring cleaned again; or by the scanline where clipping refuses.
 // The triangles have N corners or fewer.
 fn mesh_cut<const N: usize>(
-    xs: &[f64],
-    ys: &[f64],
-    ring_x: &[f64],
-    ring_y: &[f64],
-    z_bottom: f64,
-    z_top: f64,
+    extrusion: Extrusion<'_>,
+    again: SoundRing<'_>,
     region: u32,
     counts: Counts,
-    nx: &mut [f64],
-    ny: &mut [f64],
-    nz: &mut [f64],
-    kinds: &mut [u8],
-    places: &mut [u32],
-    regions: &mut [u32],
+    lists: &mut MeshLists<'_>,
 ) -> Result<Counts, Refusal>
-    requires ring { (ring_fault xs.now ys.now ≡ given tt) × (is_rectilinear xs.now ys.now ≡ false) × (ring_x.now ≡ gathered xs.now (kept xs.now ys.now)) × (ring_y.now ≡ gathered ys.now (kept xs.now ys.now)) × (3 ≤ length ring_x.now) × ((length ring_x.now - 2) * 3 ≤ N) × (N ≤ 1530) }
-    requires lists { (parallel (the_mesh nx.old ny.old nz.old kinds.old places.old regions.old) ≡ true) × (within counts (the_mesh nx.old ny.old nz.old kinds.old places.old regions.old) ≡ true) }
-    ensures { Adds (and_then (spec.ring_part counts.nodes z_bottom z_top xs.now ys.now) (fit_part counts (the_mesh nx.old ny.old nz.old kinds.old places.old regions.old))) counts region (the_mesh nx.old ny.old nz.old kinds.old places.old regions.old) (the_mesh nx.new ny.new nz.new kinds.new places.new regions.new) result }
+    requires ring { (is_rectilinear extrusion.ring.ring.xs.now extrusion.ring.ring.ys.now ≡ false) × spec.Cleans extrusion.ring again }
+    requires room { (3 ≤ length again.ring.xs.now) × ((length again.ring.xs.now - 2) * 3 ≤ N) × (N ≤ 1530) }
+    requires grows { Grows counts (held lists.old) }
+    ensures mesh { Appends (spec.meshed counts.nodes extrusion.entry) counts region (held lists.old) (held lists.new) result }
+    ensures same { Same lists.old lists.new }
 {
-    let mut corners = [0u32; N];
-    match clip_ring(ring_x, ring_y, &mut corners) {
-        Err(_) => mesh_scanline(
-            xs, // cleaned once
-            ys, // cleaned once
-            z_bottom, z_top, region, counts, nx, ny, nz, kinds, places, regions,
-        ),
-        Ok(()) => {
-            let used = (ring_x.len() - 2) * 3;
-            mesh_tris(
-                ring_x,
-                ring_y,
-                &corners[..used],
-                z_bottom,
-                z_top,
-                region,
-                counts,
-                nx,
-                ny,
-                nz,
-                kinds,
-                places,
-                regions,
-            )
+    let mut room = [0u32; N];
+    match clip_ring(again, &mut room) {
+        Err(_) => mesh_scanline(extrusion, region, counts, lists),
+        Ok(corners) => {
+            let cut = Extrusion {
+                ring: again,
+                ..extrusion
+            };
+            mesh_tris(cut, corners.places, region, counts, lists)
         }
     }
 }
 
 // The same, with room to work in for a small ring or a large one.
 fn mesh_again(
-    xs: &[f64],
-    ys: &[f64],
-    ring_x: &[f64],
-    ring_y: &[f64],
-    z_bottom: f64,
-    z_top: f64,
+    extrusion: Extrusion<'_>,
+    again: SoundRing<'_>,
     region: u32,
     counts: Counts,
-    nx: &mut [f64],
-    ny: &mut [f64],
-    nz: &mut [f64],
-    kinds: &mut [u8],
-    places: &mut [u32],
-    regions: &mut [u32],
+    lists: &mut MeshLists<'_>,
 ) -> Result<Counts, Refusal>
-    requires ring { (ring_fault xs.now ys.now ≡ given tt) × (is_rectilinear xs.now ys.now ≡ false) × (ring_x.now ≡ gathered xs.now (kept xs.now ys.now)) × (ring_y.now ≡ gathered ys.now (kept xs.now ys.now)) }
-    requires lists { (parallel (the_mesh nx.old ny.old nz.old kinds.old places.old regions.old) ≡ true) × (within counts (the_mesh nx.old ny.old nz.old kinds.old places.old regions.old) ≡ true) }
-    ensures { Adds (and_then (spec.ring_part counts.nodes z_bottom z_top xs.now ys.now) (fit_part counts (the_mesh nx.old ny.old nz.old kinds.old places.old regions.old))) counts region (the_mesh nx.old ny.old nz.old kinds.old places.old regions.old) (the_mesh nx.new ny.new nz.new kinds.new places.new regions.new) result }
+    requires ring { (is_rectilinear extrusion.ring.ring.xs.now extrusion.ring.ring.ys.now ≡ false) × spec.Cleans extrusion.ring again }
+    requires grows { Grows counts (held lists.old) }
+    ensures mesh { Appends (spec.meshed counts.nodes extrusion.entry) counts region (held lists.old) (held lists.new) result }
+    ensures same { Same lists.old lists.new }
 {
-    let n = ring_x.len();
+    let n = again.ring.xs.len();
     if n < 3 {
-        return mesh_scanline(
-            xs, ys, z_bottom, z_top, region, counts, nx, ny, nz, kinds, places, regions,
-        );
+        return mesh_scanline(extrusion, region, counts, lists);
     }
     if n <= 32 {
-        return mesh_cut::<90>(
-            xs, ys, ring_x, ring_y, z_bottom, z_top, region, counts, nx, ny, nz, kinds, places,
-            regions,
-        );
+        return mesh_cut::<90>(extrusion, again, region, counts, lists);
     }
-    mesh_cut::<1530>(
-        xs, ys, ring_x, ring_y, z_bottom, z_top, region, counts, nx, ny, nz, kinds, places, regions,
-    )
+    mesh_cut::<1530>(extrusion, again, region, counts, lists)
 }
 
-// Meshes a ring that is not rectilinear, cleaned once. A ring that is clean is not copied.
-fn mesh_slanted(
-    xs: &[f64],
-    ys: &[f64],
-    z_bottom: f64,
-    z_top: f64,
-    region: u32,
-    counts: Counts,
-    nx: &mut [f64],
-    ny: &mut [f64],
-    nz: &mut [f64],
-    kinds: &mut [u8],
-    places: &mut [u32],
-    regions: &mut [u32],
-) -> Result<Counts, Refusal>
-    requires { (ring_fault xs.now ys.now ≡ given tt) × (is_rectilinear xs.now ys.now ≡ false) × (parallel (the_mesh nx.old ny.old nz.old kinds.old places.old regions.old) ≡ true) × (within counts (the_mesh nx.old ny.old nz.old kinds.old places.old regions.old) ≡ true) }
-    ensures { Adds (and_then (spec.ring_part counts.nodes z_bottom z_top xs.now ys.now) (fit_part counts (the_mesh nx.old ny.old nz.old kinds.old places.old regions.old))) counts region (the_mesh nx.old ny.old nz.old kinds.old places.old regions.old) (the_mesh nx.new ny.new nz.new kinds.new places.new regions.new) result }
+// A ring, cleaned into the start of two lists.
+#[tactic(auto, using(crate::proofs::TriangulateLaws::kept_sound))]
+fn cleaned<'a>(
+    sound: SoundRing<'_>,
+    xs: &'a mut [f64; 512],
+    ys: &'a mut [f64; 512],
+) -> SoundRing<'a>
+    ensures { spec.Cleans sound.entry result }
 {
-    if is_clean(xs, ys) {
-        return mesh_again(
-            xs, ys, xs, ys, z_bottom, z_top, region, counts, nx, ny, nz, kinds, places, regions,
-        );
-    }
-    let mut ring_x = [0.0; 512];
-    let mut ring_y = [0.0; 512];
-    let n = clean_into(xs, ys, &mut ring_x, &mut ring_y);
-    mesh_again(
-        xs,
-        ys,
-        &ring_x[..n],
-        &ring_y[..n],
-        z_bottom,
-        z_top,
-        region,
-        counts,
-        nx,
-        ny,
-        nz,
-        kinds,
-        places,
-        regions,
-    )
+    let ring = clean_into(sound.ring, xs, ys);
+    SoundRing { ring }
 }
 
-// Meshes a ring, cleaned once: by the scanline if it is rectilinear.
-#[tactic(auto, using(openrdson_core::proofs::Rings::fine_ring, crate::proofs::PrismLaws::ring_scanned, crate::proofs::PrismLaws::part_adds))]
+// Meshes a ring, cleaned once: by the scanline if it is rectilinear, which is asked here alone; otherwise it is cleaned again. A ring that is clean is not copied.
+#[tactic(auto, using(crate::proofs::PrismLaws::ring_scanned, crate::proofs::PrismLaws::part_adds))]
 fn mesh_ring(
-    xs: &[f64],
-    ys: &[f64],
-    z_bottom: f64,
-    z_top: f64,
+    extrusion: Extrusion<'_>,
     region: u32,
     counts: Counts,
-    nx: &mut [f64],
-    ny: &mut [f64],
-    nz: &mut [f64],
-    kinds: &mut [u8],
-    places: &mut [u32],
-    regions: &mut [u32],
+    lists: &mut MeshLists<'_>,
 ) -> Result<Counts, Refusal>
-    requires { (ring_fault xs.now ys.now ≡ given tt) × (parallel (the_mesh nx.old ny.old nz.old kinds.old places.old regions.old) ≡ true) × (within counts (the_mesh nx.old ny.old nz.old kinds.old places.old regions.old) ≡ true) }
-    ensures { Adds (and_then (spec.ring_part counts.nodes z_bottom z_top xs.now ys.now) (fit_part counts (the_mesh nx.old ny.old nz.old kinds.old places.old regions.old))) counts region (the_mesh nx.old ny.old nz.old kinds.old places.old regions.old) (the_mesh nx.new ny.new nz.new kinds.new places.new regions.new) result }
+    requires { Grows counts (held lists.old) }
+    ensures mesh { Appends (spec.meshed counts.nodes extrusion.entry) counts region (held lists.old) (held lists.new) result }
+    ensures same { Same lists.old lists.new }
 {
-    if ring_is_rectilinear(xs, ys) {
-        return mesh_scanline(
-            xs, ys, z_bottom, z_top, region, counts, nx, ny, nz, kinds, places, regions,
-        );
+    let ring = extrusion.ring;
+    if ring_is_rectilinear(ring.ring) {
+        return mesh_scanline(extrusion, region, counts, lists);
     }
-    mesh_slanted(
-        xs, ys, z_bottom, z_top, region, counts, nx, ny, nz, kinds, places, regions,
-    )
+    if is_clean(ring.ring) {
+        return mesh_again(extrusion, ring, region, counts, lists);
+    }
+    let mut xs = [0.0; 512];
+    let mut ys = [0.0; 512];
+    let again = cleaned(ring, &mut xs, &mut ys);
+    mesh_again(extrusion, again, region, counts, lists)
 }
 
-// Whether a prism is meshed, from its numbers and its part of the point lists: 16; 15 for counts, material and part; 2; 1; 8.
-#[tactic(auto, unfolding(crate::specs::Prisms::prism_judged))]
-fn prism_check(
-    point_x: &[f64],
-    point_y: &[f64],
-    z_bottom: f64,
-    z_top: f64,
+// Cleans a ring, and meshes it. A ring that is clean is not copied, and no room is made for it. `mesh_ring` does the same with another step: with
+// the step a closure that holds `lists`, what it leaves in them is not known; one room for both ways, given its value in one of them, is not covered.
+#[tactic(auto, using(crate::proofs::PrismLaws::clean_self, crate::proofs::PrismLaws::prism_ring, crate::proofs::PrismLaws::part_adds))]
+fn mesh_part(
+    extrusion: Extrusion<'_>,
+    region: u32,
+    counts: Counts,
+    lists: &mut MeshLists<'_>,
+) -> Result<Counts, Refusal>
+    requires { Grows counts (held lists.old) }
+    ensures mesh { Appends (spec.cleaned counts.nodes extrusion.entry) counts region (held lists.old) (held lists.new) result }
+    ensures same { Same lists.old lists.new }
+{
+    let ring = extrusion.ring;
+    if is_clean(ring.ring) {
+        return mesh_ring(extrusion, region, counts, lists);
+    }
+    let mut xs = [0.0; 512];
+    let mut ys = [0.0; 512];
+    let once = cleaned(ring, &mut xs, &mut ys);
+    let extrusion = Extrusion {
+        ring: once,
+        ..extrusion
+    };
+    mesh_ring(extrusion, region, counts, lists)
+}
+
+// A part of point lists as a ring from one height to another: 15, 2, 1, 8.
+#[tactic(auto, unfolding(crate::specs::Prisms::part_fault, openrdson_core::specs::Points::points_part))]
+fn extrusion_of<'a>(
+    points: Points<'a>,
+    heights: Heights,
+    start: u32,
+    count: u32,
+) -> Result<Extrusion<'a>, Refusal>
+    ensures fault { map_answer (λ _. tt {0}) (answer result) ≡ spec.part_fault points.entry.xs.now points.entry.ys.now heights.bottom heights.top start count }
+    ensures is { IfOk result (λ e. (e.ring.ring.xs.now ≡ part start count points.entry.xs.now) × (e.ring.ring.ys.now ≡ part start count points.entry.ys.now) × (e.heights ≡ heights)) }
+{
+    let part = points.part(start, count).ok_or(Refusal::OutsideList)?;
+    if points.xs.len() > 2097152 {
+        return Err(Refusal::ListTooLong);
+    }
+    let ring = Ring::checked(part.xs, part.ys)?;
+    if !heights.is_in_range() {
+        return Err(Refusal::NumberOutOfRange);
+    }
+    if !(heights.top > heights.bottom) {
+        return Err(Refusal::DegeneratePrism);
+    }
+    Ok(Extrusion { ring, heights })
+}
+
+// Meshes a prism region, whose footprint is a part of the point lists; its elements are appended after the nodes and elements counted, with the
+// region's number; 16, 15, 2, 1, 8, then the scanline's 3, 9, 10, 1, 11, 1, then 12.
+#[tactic(auto, using(crate::proofs::BoxWrites::refused_adds, crate::proofs::BoxWrites::same_adds, crate::proofs::PrismLaws::prism_lists, crate::proofs::PrismLaws::prism_points, crate::proofs::PrismLaws::prism_counts, crate::proofs::PrismLaws::prism_material, crate::proofs::PrismLaws::prism_part_out, crate::proofs::PrismLaws::prism_next))]
+pub fn mesh_prism(
+    xs: &[f64],
+    ys: &[f64],
+    heights: Heights,
     start: u32,
     count: u32,
     material: Material,
+    region: u32,
     counts: Counts,
-    xs: usize,
-    ys: usize,
-    zs: usize,
-    kinds: usize,
-    places: usize,
-    regions: usize,
-) -> Result<(), Refusal>
-    ensures { answer result ≡ spec.prism_judged point_x.now point_y.now z_bottom z_top start count material.0 counts xs ys zs kinds places regions }
+    lists: &mut MeshLists<'_>,
+) -> Result<Counts, Refusal>
+    ensures mesh { Adds (spec.mesh_prism heights.bottom heights.top start count material.0 counts xs.now ys.now (held lists.old)) counts region (held lists.old) (held lists.new) result }
+    ensures same { Same lists.old lists.new }
 {
-    if !lists_parallel(xs, ys, zs, kinds, places, regions) {
+    if !lists.is_parallel() {
         return Err(Refusal::UnequalLists);
     }
-    if point_x.len() != point_y.len() {
-        return Err(Refusal::UnequalLists);
-    }
-    if !counts_within(counts, xs, kinds) {
+    let points = Points::new(xs, ys)?;
+    if !lists.holds(counts) {
         return Err(Refusal::OutsideList);
     }
     if material.0 > 768 {
         return Err(Refusal::OutsideList);
     }
-    part_check(point_x, point_y, z_bottom, z_top, start, count)
-}
-
-// Of a part of point lists that are equally long, and two heights: 15, 2, 1, 8.
-#[tactic(auto, using(crate::proofs::PrismLaws::lent_ring), unfolding(crate::specs::Prisms::part_judged))]
-fn part_check(
-    point_x: &[f64],
-    point_y: &[f64],
-    z_bottom: f64,
-    z_top: f64,
-    start: u32,
-    count: u32,
-) -> Result<(), Refusal>
-    requires { length point_x.now ≡ length point_y.now }
-    ensures { answer result ≡ spec.part_judged point_x.now point_y.now z_bottom z_top start count }
-{
-    let first = start as usize;
-    let end = first + count as usize;
-    if end > point_x.len() {
-        return Err(Refusal::OutsideList);
-    }
-    if point_x.len() > 2097152 {
-        return Err(Refusal::ListTooLong);
-    }
-    ring_check(&point_x[first..end], &point_y[first..end])?;
-    if !(binary64::coordinate_in_range(z_bottom) & binary64::coordinate_in_range(z_top)) {
-        return Err(Refusal::NumberOutOfRange);
-    }
-    if !(z_top > z_bottom) {
-        return Err(Refusal::DegeneratePrism);
-    }
-    Ok(())
-}
-
-// Cleans a ring that has been checked, and meshes it. A ring that is clean is not copied.
-fn mesh_part(
-    xs: &[f64],
-    ys: &[f64],
-    z_bottom: f64,
-    z_top: f64,
-    region: u32,
-    counts: Counts,
-    nx: &mut [f64],
-    ny: &mut [f64],
-    nz: &mut [f64],
-    kinds: &mut [u8],
-    places: &mut [u32],
-    regions: &mut [u32],
-) -> Result<Counts, Refusal>
-    requires { (ring_fault xs.now ys.now ≡ given tt) × (parallel (the_mesh nx.old ny.old nz.old kinds.old places.old regions.old) ≡ true) × (within counts (the_mesh nx.old ny.old nz.old kinds.old places.old regions.old) ≡ true) }
-    ensures { Adds (and_then (spec.prism_part counts.nodes z_bottom z_top xs.now ys.now) (fit_part counts (the_mesh nx.old ny.old nz.old kinds.old places.old regions.old))) counts region (the_mesh nx.old ny.old nz.old kinds.old places.old regions.old) (the_mesh nx.new ny.new nz.new kinds.new places.new regions.new) result }
-{
-    if is_clean(xs, ys) {
-        return mesh_ring(
-            xs, ys, z_bottom, z_top, region, counts, nx, ny, nz, kinds, places, regions,
-        );
-    }
-    let mut ring_x = [0.0; 512];
-    let mut ring_y = [0.0; 512];
-    let n = clean_into(xs, ys, &mut ring_x, &mut ring_y);
-    mesh_ring(
-        &ring_x[..n],
-        &ring_y[..n],
-        z_bottom,
-        z_top,
-        region,
-        counts,
-        nx,
-        ny,
-        nz,
-        kinds,
-        places,
-        regions,
-    )
-}
-
-// Meshes a prism region, whose footprint is a part of the point lists; its elements are appended after the nodes and elements counted, with the
-// region's number; 16, 15, 2, 1, 8, then the scanline's 3, 9, 10, 1, 11, 1, then 12.
-pub fn mesh_prism(
-    point_x: &[f64],
-    point_y: &[f64],
-    z_bottom: f64,
-    z_top: f64,
-    start: u32,
-    count: u32,
-    material: Material,
-    region: u32,
-    counts: Counts,
-    xs: &mut [f64],
-    ys: &mut [f64],
-    zs: &mut [f64],
-    kinds: &mut [u8],
-    places: &mut [u32],
-    regions: &mut [u32],
-) -> Result<Counts, Refusal>
-    ensures { Adds (spec.mesh_prism z_bottom z_top start count material.0 counts point_x.now point_y.now (the_mesh xs.old ys.old zs.old kinds.old places.old regions.old)) counts region (the_mesh xs.old ys.old zs.old kinds.old places.old regions.old) (the_mesh xs.new ys.new zs.new kinds.new places.new regions.new) result }
-{
-    prism_check(
-        point_x,
-        point_y,
-        z_bottom,
-        z_top,
-        start,
-        count,
-        material,
-        counts,
-        xs.len(),
-        ys.len(),
-        zs.len(),
-        kinds.len(),
-        places.len(),
-        regions.len(),
-    )?;
-    let first = start as usize;
-    let end = first + count as usize;
-    mesh_part(
-        &point_x[first..end],
-        &point_y[first..end],
-        z_bottom,
-        z_top,
-        region,
-        counts,
-        xs,
-        ys,
-        zs,
-        kinds,
-        places,
-        regions,
-    )
+    let extrusion = extrusion_of(points, heights, start, count)?;
+    mesh_part(extrusion, region, counts, lists)
 }

@@ -1,12 +1,13 @@
 // Quads: in a band, between two neighbouring crossings of its middle.
-ghost use Rattle.std.specs.Prelude.{◌≡◌, ◌&&◌, [], ◌∷◌, ◌+◌, ◌≤◌, ◌<◌, length};
+ghost use Rattle.std.specs.Prelude.{◌≡◌, [], ◌∷◌, ◌+◌, ◌≤◌, ◌<◌, length};
 ghost use Rattle.lists.specs.Lists.{Below, put, joined};
-ghost use Rattle.meshing.specs.Levels.{the_band};
 ghost use Rattle.meshing.specs.Scanline.{quad_xs, quad_ys, Tallied};
 ghost use Rattle.meshing.specs.Quads as spec;
 
 use crate::crossings::edge_at;
+use crate::levels::Band;
 use crate::writes::write_eight;
+use openrdson_core::Ring;
 
 // The x of its corners a, b, c, d, counter-clockwise, and the heights of a and b, and of c and d.
 #[derive(Clone, Copy)]
@@ -19,26 +20,26 @@ pub struct Quad {
     pub high: f64,
 }
 
-// How many quads there are, and whether all their corners are in range.
+// How many quads there are, and whether all their corners are in range. No option: what is refused for the one comes before what is for the other.
 #[derive(Clone, Copy)]
 pub struct Tally {
     pub quads: usize,
     pub inside: bool,
 }
 
-// The quad between the edges l and r in the band from low to high.
+// The quad between the edges l and r in a band.
 #[tactic(auto, unfolding(crate::specs::Quads::quad_of))]
-fn quad_of(xs: &[f64], ys: &[f64], low: f64, high: f64, l: usize, r: usize) -> Quad
-    requires { (length ys.now ≡ length xs.now) × (l < length xs.now) × (r < length xs.now) }
-    ensures { result ≡ spec.quad_of xs.now ys.now (the_band low high) l r }
+fn quad_of(ring: Ring<'_>, band: Band, l: usize, r: usize) -> Quad
+    requires { (l < length ring.xs.now) × (r < length ring.xs.now) }
+    ensures { result ≡ spec.quad_of ring.entry.xs.now ring.entry.ys.now band l r }
 {
     Quad {
-        ax: edge_at(xs, ys, low, l),
-        bx: edge_at(xs, ys, low, r),
-        cx: edge_at(xs, ys, high, r),
-        dx: edge_at(xs, ys, high, l),
-        low,
-        high,
+        ax: edge_at(ring, band.low, l),
+        bx: edge_at(ring, band.low, r),
+        cx: edge_at(ring, band.high, r),
+        dx: edge_at(ring, band.high, l),
+        low: band.low,
+        high: band.high,
     }
 }
 
@@ -81,15 +82,15 @@ fn tally_quad(t: Tally, q: Quad) -> Tally
     }
 }
 
-// The tally with the quads between consecutive pairs of edges in the band from low to high. For callers that have checked the ring.
-pub fn tally_quads(xs: &[f64], ys: &[f64], low: f64, high: f64, edges: &[usize], t: Tally) -> Tally
-    requires { (length ys.now ≡ length xs.now) × Below (length xs.now) edges.now × (t.quads + length edges.now ≤ 1048576) }
-    ensures { Tallied t (spec.quads_between xs.now ys.now (the_band low high) edges.now) result × (result.quads ≤ t.quads + length edges.now) }
+// The tally with the quads between consecutive pairs of edges in a band.
+pub fn tally_quads(ring: Ring<'_>, band: Band, edges: &[usize], t: Tally) -> Tally
+    requires { Below (length ring.xs.now) edges.now × (t.quads + length edges.now ≤ 1048576) }
+    ensures { Tallied t (spec.quads_between ring.entry.xs.now ring.entry.ys.now band edges.now) result × (result.quads ≤ t.quads + length edges.now) }
 {
     let (pairs, _) = edges.as_chunks::<2>();
     let mut sum = t;
     for &[left, right] in pairs {
-        let q = quad_of(xs, ys, low, high, left, right);
+        let q = quad_of(ring, band, left, right);
         if !is_flat(q) {
             sum = tally_quad(sum, q);
         }
@@ -97,27 +98,25 @@ pub fn tally_quads(xs: &[f64], ys: &[f64], low: f64, high: f64, edges: &[usize],
     sum
 }
 
-// Writes the nodes' x and y of the quads between consecutive pairs of edges, from place p on, and says where to go on.
-// For callers that have found room for them.
+// Writes the nodes' x and y of the quads between consecutive pairs of edges, from place p on, and says where to go on: bands follow one another in the lists.
+// For callers that have found room for them. The walk is `tally_quads`'s: one that takes a closure needs a law of its turns, and is no shorter.
 pub fn write_quads(
-    xs: &[f64],
-    ys: &[f64],
-    low: f64,
-    high: f64,
+    ring: Ring<'_>,
+    band: Band,
     edges: &[usize],
     nx: &mut [f64],
     ny: &mut [f64],
     p: usize,
 ) -> usize
-    requires { (length ys.now ≡ length xs.now) × Below (length xs.now) edges.now × (p + length (joined quad_xs (spec.quads_between xs.now ys.now (the_band low high) edges.now)) ≤ length nx.old) × (length ny.old ≡ length nx.old) }
-    ensures { (nx.new ≡ put nx.old p (joined quad_xs (spec.quads_between xs.now ys.now (the_band low high) edges.now)))
-        × (ny.new ≡ put ny.old p (joined quad_ys (spec.quads_between xs.now ys.now (the_band low high) edges.now)))
-        × (result ≡ p + length (joined quad_xs (spec.quads_between xs.now ys.now (the_band low high) edges.now))) }
+    requires { Below (length ring.xs.now) edges.now × (p + length (joined quad_xs (spec.quads_between ring.xs.now ring.ys.now band edges.now)) ≤ length nx.old) × (length ny.old ≡ length nx.old) }
+    ensures { (nx.new ≡ put nx.old p (joined quad_xs (spec.quads_between ring.entry.xs.now ring.entry.ys.now band edges.now)))
+        × (ny.new ≡ put ny.old p (joined quad_ys (spec.quads_between ring.entry.xs.now ring.entry.ys.now band edges.now)))
+        × (result ≡ p + length (joined quad_xs (spec.quads_between ring.entry.xs.now ring.entry.ys.now band edges.now))) }
 {
     let (pairs, _) = edges.as_chunks::<2>();
     let mut at = p;
     for &[left, right] in pairs {
-        let q = quad_of(xs, ys, low, high, left, right);
+        let q = quad_of(ring, band, left, right);
         if !is_flat(q) {
             write_eight(nx, at, [q.ax, q.bx, q.cx, q.dx, q.ax, q.bx, q.cx, q.dx]);
             write_eight(

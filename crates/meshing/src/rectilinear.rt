@@ -1,22 +1,21 @@
 // Whether a ring is rectilinear.
-ghost use Rattle.std.specs.Prelude.{◌≡◌, ◌<◌, length};
+ghost use Rattle.std.specs.Prelude.{◌≡◌};
 ghost use Rattle.meshing.specs.Rectilinear as spec;
 
-use crate::ring::{next_place, point_at};
-use openrdson_core::Point;
+use crate::ring::next_place;
+use openrdson_core::{Point, Ring};
 
-// Whether each edge of a ring keeps x or y, within 1e-9 times the larger of 1.0 and the largest coordinate size. For callers that have checked the ring.
-pub fn ring_is_rectilinear(xs: &[f64], ys: &[f64]) -> bool
-    requires { length ys.now ≡ length xs.now }
-    ensures { result ≡ spec.is_rectilinear xs.now ys.now }
+// Whether each edge of a ring keeps x or y, within 1e-9 times the larger of 1.0 and the largest coordinate size.
+pub fn ring_is_rectilinear(ring: Ring<'_>) -> bool
+    ensures { result ≡ spec.is_rectilinear ring.entry.xs.now ring.entry.ys.now }
 {
-    let n = xs.len();
+    let n = ring.xs.len();
     if n < 3 {
         return false;
     }
-    let eps = 1e-9 * binary64::larger(largest_size(xs, ys), 1.0);
+    let eps = 1e-9 * binary64::larger(largest_size(ring), 1.0);
     for i in 0..n {
-        if is_slanted(eps, point_at(xs, ys, i), point_at(xs, ys, next_place(n, i))) {
+        if is_slanted(eps, ring.point(i), ring.point(next_place(n, i))) {
             return false;
         }
     }
@@ -24,15 +23,14 @@ pub fn ring_is_rectilinear(xs: &[f64], ys: &[f64]) -> bool
 }
 
 // The largest coordinate size of a ring.
-fn largest_size(xs: &[f64], ys: &[f64]) -> f64
-    requires { length ys.now ≡ length xs.now }
-    ensures { result ≡ spec.largest_size xs.now ys.now }
+fn largest_size(ring: Ring<'_>) -> f64
+    ensures { result ≡ spec.largest_size ring.entry.xs.now ring.entry.ys.now }
 {
     let mut size = 0.0;
-    for i in 0..xs.len() {
+    for i in 0..ring.xs.len() {
         size = binary64::larger(
-            binary64::larger(size, binary64::abs(xs[i])),
-            binary64::abs(ys[i]),
+            binary64::larger(size, binary64::abs(ring.xs[i])),
+            binary64::abs(ring.ys[i]),
         );
     }
     size

@@ -1,23 +1,14 @@
 // Rings: their points and neighbours, and cleaning, which drops a point that is close to the one before it.
-ghost use Rattle.std.specs.Prelude.{◌≡◌, true, ◌≤◌, ◌<◌, length, take};
+ghost use Rattle.std.specs.Prelude.{◌≡◌, true, ◌≤◌, ◌<◌, length};
 ghost use Rattle.lists.specs.Lists.{put, elems, Below, next_of, prev_of};
-ghost use Rattle.openrdson_core.specs.Points.{point_at};
-ghost use Rattle.meshing.specs.Ring.{is_close, kept, gathered, KeptIn, CleanedAs};
+ghost use Rattle.meshing.specs.Ring.{is_close, kept, gathered, CleanedAs};
 
-use openrdson_core::{Point, Refusal, ring_check};
+use openrdson_core::{Point, Refusal, Ring};
 
 // 2^-52, Rust's f64::EPSILON.
 const TINY: f64 = 2.220446049250313e-16;
 
-// The point at place i.
-pub fn point_at(xs: &[f64], ys: &[f64], i: usize) -> Point
-    requires { (length ys.now ≡ length xs.now) × (i < length xs.now) }
-    ensures { result ≡ point_at xs.now ys.now i }
-{
-    Point::new(xs[i], ys[i])
-}
-
-// The neighbours of place i on a ring of m places.
+// The neighbours of place i on a ring of m places. A type for the m places would be made at each call, and hold no more than m.
 pub fn next_place(m: usize, i: usize) -> usize
     requires { i < m }
     ensures { (result ≡ next_of m i) × (result < m) }
@@ -51,79 +42,79 @@ pub fn dedup_ring(
     if room != out_y.len() {
         return Err(Refusal::UnequalLists);
     }
-    ring_check(xs, ys)?;
+    let sound = Ring::checked(xs, ys)?;
     let mut places = [0usize; 512];
-    let count = kept_places(xs, ys, &mut places);
-    if count > room {
+    let kept = kept_places(sound.ring, &mut places);
+    if kept.len() > room {
         return Err(Refusal::OutputTooShort);
     }
-    gather_into(xs, &places[..count], out_x);
-    gather_into(ys, &places[..count], out_y);
-    Ok(count)
+    gather_into(xs, kept, out_x);
+    gather_into(ys, kept, out_y);
+    Ok(kept.len())
 }
 
 // Whether no point of a ring is close to the one before it, and the last is not to the first: cleaning then keeps all of them.
-// For callers that have checked the ring.
 #[tactic(auto, using(crate::proofs::RingLaws::clean_start, crate::proofs::RingLaws::clean_more, crate::proofs::RingLaws::clean_few, crate::proofs::RingLaws::clean_end))]
-pub fn is_clean(xs: &[f64], ys: &[f64]) -> bool
-    requires { length ys.now ≡ length xs.now }
-    ensures { result ≡ true → kept xs.now ys.now ≡ elems (length xs.now) (λ i. i) }
+pub fn is_clean(ring: Ring<'_>) -> bool
+    ensures { result ≡ true → kept ring.entry.xs.now ring.entry.ys.now ≡ elems (length ring.entry.xs.now) (λ i. i) }
 {
-    let n = xs.len();
+    let n = ring.xs.len();
     if n < 2 {
         return true;
     }
     for i in 1..n {
-        if is_close(point_at(xs, ys, i - 1), point_at(xs, ys, i)) {
+        if is_close(ring.point(i - 1), ring.point(i)) {
             return false;
         }
     }
-    !is_close(point_at(xs, ys, 0), point_at(xs, ys, n - 1))
+    !is_close(ring.point(0), ring.point(n - 1))
 }
 
-// Fills `places` with the places of the points that are kept, and counts them. For callers that have checked the ring.
-pub fn kept_places(xs: &[f64], ys: &[f64], places: &mut [usize]) -> usize
-    requires { (length xs.now ≡ length ys.now) × (length xs.now ≤ length places.old) }
-    ensures { KeptIn xs.now ys.now places.new result }
+// The places of the points that are kept, written over the start of `places`.
+fn kept_places<'a>(ring: Ring<'_>, places: &'a mut [usize; 512]) -> &'a [usize]
+    ensures are { result.now ≡ kept ring.entry.xs.now ring.entry.ys.now }
+    ensures below { Below (length ring.entry.xs.now) result.now }
+    ensures within { length result.now ≤ length ring.entry.xs.now }
 {
-    let n = xs.len();
+    let n = ring.xs.len();
     if n == 0 {
-        return 0;
+        return &places[..0];
     }
-    let first = point_at(xs, ys, 0);
+    let first = ring.point(0);
     places[0] = 0;
     let mut last = first;
     let mut count = 1;
     for i in 1..n {
-        let point = point_at(xs, ys, i);
+        let point = ring.point(i);
         if !is_close(last, point) {
             places[count] = i;
             count += 1;
             last = point;
         }
     }
-    if count <= 1 {
-        return count;
+    if count > 1 && is_close(first, last) {
+        count -= 1;
     }
-    if is_close(first, last) {
-        return count - 1;
-    }
-    count
+    &places[..count]
 }
 
-// Writes the points of a ring that are kept over the start of two lists, and counts them. For callers that have checked the ring.
-pub fn clean_into(xs: &[f64], ys: &[f64], out_x: &mut [f64], out_y: &mut [f64]) -> usize
-    requires { (length xs.now ≡ length ys.now) × (length xs.now ≤ 512) × (length xs.now ≤ length out_x.old) × (length xs.now ≤ length out_y.old) }
-    ensures few { result ≤ 512 }
-    ensures many { result ≡ length (kept xs.now ys.now) }
-    ensures kept_x { take result out_x.new ≡ gathered xs.now (kept xs.now ys.now) }
-    ensures kept_y { take result out_y.new ≡ gathered ys.now (kept xs.now ys.now) }
+// Writes the points of a ring that are kept over the start of two lists: the ring of these. A ring has at most 512 places, and there is no heap.
+pub fn clean_into<'a>(
+    ring: Ring<'_>,
+    out_x: &'a mut [f64; 512],
+    out_y: &'a mut [f64; 512],
+) -> Ring<'a>
+    ensures kept_x { result.xs.now ≡ gathered ring.entry.xs.now (kept ring.entry.xs.now ring.entry.ys.now) }
+    ensures kept_y { result.ys.now ≡ gathered ring.entry.ys.now (kept ring.entry.xs.now ring.entry.ys.now) }
 {
     let mut places = [0usize; 512];
-    let n = kept_places(xs, ys, &mut places);
-    gather_into(xs, &places[..n], out_x);
-    gather_into(ys, &places[..n], out_y);
-    n
+    let kept = kept_places(ring, &mut places);
+    gather_into(ring.xs, kept, out_x);
+    gather_into(ring.ys, kept, out_y);
+    let n = kept.len();
+    let xs = &out_x[..n];
+    let ys = &out_y[..n];
+    Ring { xs, ys }
 }
 
 // Whether the points differ by less than 2^-52 in x and in y.
@@ -136,9 +127,9 @@ fn is_close(a: Point, b: Point) -> bool
     false
 }
 
-// Writes the numbers of l at the places over the start of out. For callers whose places lie in l and have room in out.
+// Writes the numbers of l at the places over the start of out: cleaning is defined by places. For callers whose places lie in l and have room in out.
 #[tactic(auto, using(lists::proofs::Fills::no_elems, lists::proofs::Places::below_at))]
-pub fn gather_into(l: &[f64], places: &[usize], out: &mut [f64])
+fn gather_into(l: &[f64], places: &[usize], out: &mut [f64])
     requires { Below (length l.now) places.now × (length places.now ≤ length out.old) }
     ensures { out.new ≡ put out.old 0 (gathered l.now places.now) }
 {

@@ -1,39 +1,52 @@
 // The scanline decomposition of a ring into quads, each two prisms. One pass decides, a second one writes.
 ghost use Rattle.std.specs.Prelude.{◌≡◌, true, ◌+◌, ◌*◌, ◌≤◌, length, take};
-ghost use Rattle.lists.specs.Answer.{given, and_then, map_answer};
+ghost use Rattle.lists.specs.Answer.{given, map_answer};
 ghost use Rattle.lists.specs.Lists.{put, runs, joined};
-ghost use Rattle.openrdson_core.specs.Points.{ring_fault};
 ghost use Rattle.openrdson_core.specs.Answers.{answer};
-ghost use Rattle.openrdson_core.specs.Mesh.{the_mesh, parallel, within};
-ghost use Rattle.meshing.specs.Added.{Adds, fit_part};
-ghost use Rattle.meshing.specs.Levels.{the_band, levels as levels_of, bands_of, middle as middle_of};
-ghost use Rattle.meshing.specs.Quads.{band_quads};
+ghost use Rattle.openrdson_core.specs.Mesh.{held, Same};
+ghost use Rattle.meshing.specs.Added.{Grows, Appends};
+ghost use Rattle.meshing.specs.Levels.{levels as levels_of, bands_of, middle as middle_of};
+ghost use Rattle.meshing.specs.Quads.{quads_of};
 ghost use Rattle.meshing.specs.Scanline as spec;
 
 use crate::crossings::cross;
-use crate::levels::level_list;
+use crate::levels::{Band, level_list};
 use crate::quads::{Tally, tally_quads, write_quads};
 use crate::writes::{fill, write_eight};
-use openrdson_core::{Counts, Refusal, UNUSED, has_room};
+use openrdson_core::{Counts, Heights, MeshLists, Refusal, SoundRing, UNUSED, has_room};
 
-// The middle between two levels.
-fn middle(low: f64, high: f64) -> f64
-    ensures { result ≡ middle_of (the_band low high) }
-{
-    0.5 * (low + high)
+// A ring from one height to another.
+#[derive(Clone, Copy)]
+pub struct Extrusion<'a> {
+    pub ring: SoundRing<'a>,
+    pub heights: Heights,
 }
 
-// Tallies the quads of the bands between levels; none if an edge crosses a band's middle out of range. `edges` and `at` are room to work in.
-fn tally_bands(
-    xs: &[f64],
-    ys: &[f64],
-    levels: &[f64],
-    edges: &mut [usize],
-    at: &mut [f64],
-) -> Option<Tally>
-    requires { spec.Worked xs.now ys.now levels.now (length edges.old) (length at.old) }
-    ensures { spec.BandsAs xs.now ys.now (bands_of levels.now) result }
+// A ring with the levels of its points: its bands lie between one level and the next.
+#[derive(Clone, Copy)]
+struct Bands<'a> {
+    ring: SoundRing<'a>,
+    levels: &'a [f64],
+    ghost are: { levels.now ≡ levels_of ring.ring.ys.now },
+    ghost few: { length levels.now ≤ 512 },
+}
+
+// The middle between two levels.
+fn middle(band: Band) -> f64
+    ensures { result ≡ middle_of band }
 {
+    0.5 * (band.low + band.high)
+}
+
+// Tallies the quads of the bands; none if an edge crosses a band's middle out of range. `edges` and `at` are room to work in.
+// `write_bands` walks alike: a walk that takes what is done with a band would also have to carry, from band to band, what that asks: how many quads
+// there are so far, and room for them.
+fn tally_bands(bands: Bands<'_>, edges: &mut [usize], at: &mut [f64]) -> Option<Tally>
+    requires { spec.Worked bands.ring.ring.ys.now (length edges.old) (length at.old) }
+    ensures { spec.BandsAs bands.entry.ring.ring.xs.now bands.entry.ring.ring.ys.now (bands_of bands.entry.levels.now) result }
+{
+    let ring = bands.ring.ring;
+    let levels = bands.levels;
     let mut t = Tally {
         quads: 0,
         inside: true,
@@ -41,34 +54,31 @@ fn tally_bands(
     let mut below = binary64::minus_infinity();
     let mut count = 0;
     for k in 1..levels.len() {
-        let low = levels[k - 1];
-        let high = levels[k];
-        let y = middle(low, high);
-        count = cross(xs, ys, below, y, edges, at, count)?;
-        t = tally_quads(xs, ys, low, high, &edges[..count], t);
+        let band = Band {
+            low: levels[k - 1],
+            high: levels[k],
+        };
+        let y = middle(band);
+        count = cross(ring, below, y, edges, at, count)?;
+        t = tally_quads(ring, band, &edges[..count], t);
         below = y;
     }
     Some(t)
 }
 
 // What the scanline answers: 3, 9, 1 for a crossing, 11, 1 for a node. The crossings of a height are never odd in number, so 10 does not arise.
-fn scan_ring(
-    xs: &[f64],
-    ys: &[f64],
-    levels: &[f64],
-    edges: &mut [usize],
-    at: &mut [f64],
-) -> Result<usize, Refusal>
-    requires { spec.Worked xs.now ys.now levels.now (length edges.old) (length at.old) × (levels.now ≡ levels_of ys.now) }
-    ensures { answer result ≡ map_answer length (spec.scanline_of xs.now ys.now) }
+#[tactic(auto, using(crate::proofs::ScanlineLaws::few_out, crate::proofs::ScanlineLaws::level_out, crate::proofs::ScanlineLaws::crossing_out, crate::proofs::ScanlineLaws::none_out, crate::proofs::ScanlineLaws::node_out, crate::proofs::ScanlineLaws::scan_done))]
+fn scan_ring(bands: Bands<'_>, edges: &mut [usize], at: &mut [f64]) -> Result<usize, Refusal>
+    requires { spec.Worked bands.ring.ring.ys.now (length edges.old) (length at.old) }
+    ensures { answer result ≡ map_answer length (spec.scanline_of bands.entry.ring.ring.xs.now bands.entry.ring.ring.ys.now) }
 {
-    if xs.len() < 3 {
+    if bands.ring.ring.xs.len() < 3 {
         return Err(Refusal::TooFewVertices);
     }
-    if levels.len() < 2 {
+    if bands.levels.len() < 2 {
         return Err(Refusal::DegenerateYExtent);
     }
-    let t = tally_bands(xs, ys, levels, edges, at).ok_or(Refusal::NumberOutOfRange)?;
+    let t = tally_bands(bands, edges, at).ok_or(Refusal::NumberOutOfRange)?;
     if t.quads == 0 {
         return Err(Refusal::NoTrapezoid);
     }
@@ -78,50 +88,48 @@ fn scan_ring(
     Ok(t.quads)
 }
 
-// Writes the nodes' x and y of the quads of the bands between levels, from place p on. For callers that have decided, and found room.
+// Writes the nodes' x and y of the quads of the bands, from place p on. For callers that have decided, and found room.
 fn write_bands(
-    xs: &[f64],
-    ys: &[f64],
-    levels: &[f64],
+    bands: Bands<'_>,
     edges: &mut [usize],
     at: &mut [f64],
     nx: &mut [f64],
     ny: &mut [f64],
     p: usize,
 )
-    requires worked { spec.Worked xs.now ys.now levels.now (length edges.old) (length at.old) × (spec.bands_in xs.now ys.now (bands_of levels.now) ≡ true) }
-    requires room { (p + length (joined spec.quad_xs (joined (band_quads xs.now ys.now) (bands_of levels.now))) ≤ length nx.old) × (length ny.old ≡ length nx.old) }
-    ensures { (nx.new ≡ put nx.old p (joined spec.quad_xs (joined (band_quads xs.now ys.now) (bands_of levels.now))))
-        × (ny.new ≡ put ny.old p (joined spec.quad_ys (joined (band_quads xs.now ys.now) (bands_of levels.now)))) }
+    requires worked { spec.Worked bands.ring.ring.ys.now (length edges.old) (length at.old) }
+    requires fine { spec.bands_in bands.ring.ring.xs.now bands.ring.ring.ys.now (bands_of bands.levels.now) ≡ true }
+    requires room { (p + length (joined spec.quad_xs (quads_of bands.ring.ring.xs.now bands.ring.ring.ys.now)) ≤ length nx.old) × (length ny.old ≡ length nx.old) }
+    ensures { (nx.new ≡ put nx.old p (joined spec.quad_xs (quads_of bands.entry.ring.ring.xs.now bands.entry.ring.ring.ys.now)))
+        × (ny.new ≡ put ny.old p (joined spec.quad_ys (quads_of bands.entry.ring.ring.xs.now bands.entry.ring.ring.ys.now))) }
 {
+    let ring = bands.ring.ring;
+    let levels = bands.levels;
     let mut below = binary64::minus_infinity();
     let mut count = 0;
     let mut place = p;
     for k in 1..levels.len() {
-        let low = levels[k - 1];
-        let high = levels[k];
-        let y = middle(low, high);
-        count = cross(xs, ys, below, y, edges, at, count).unwrap();
-        place = write_quads(xs, ys, low, high, &edges[..count], nx, ny, place);
+        let band = Band {
+            low: levels[k - 1],
+            high: levels[k],
+        };
+        let y = middle(band);
+        count = cross(ring, below, y, edges, at, count).unwrap();
+        place = write_quads(ring, band, &edges[..count], nx, ny, place);
         below = y;
     }
 }
 
 // Writes the nodes' z of n quads from place p on: four at the bottom, four at the top.
 #[tactic(auto, using(lists::proofs::Fills::no_runs, lists::proofs::Fills::one_run, lists::proofs::Fills::all_runs))]
-fn write_heights(nz: &mut [f64], p: usize, n: usize, z_bottom: f64, z_top: f64)
+fn write_heights(nz: &mut [f64], p: usize, n: usize, heights: Heights)
     requires { p + n * 8 ≤ length nz.old }
-    ensures { nz.new ≡ put nz.old p (runs n (λ _. spec.quad_zs z_bottom z_top)) }
+    ensures { nz.new ≡ put nz.old p (runs n (λ _. spec.quad_zs heights.bottom heights.top)) }
 {
+    let (low, high) = (heights.bottom, heights.top);
     for i in 0..n {
         let at = p + i * 8;
-        write_eight(
-            nz,
-            at,
-            [
-                z_bottom, z_bottom, z_bottom, z_bottom, z_top, z_top, z_top, z_top,
-            ],
-        );
+        write_eight(nz, at, [low, low, low, low, high, high, high, high]);
     }
 }
 
@@ -154,115 +162,89 @@ fn write_pair(places: &mut [u32], at: usize, a: u32)
 }
 
 // Writes n quads that have been decided, where there is room; 12.
-#[tactic(auto, using(crate::proofs::ScanlineLaws::decided, crate::proofs::ScanlineLaws::quads_few, crate::proofs::ScanlineLaws::bands_fine, crate::proofs::ScanlineLaws::quad_room))]
+#[tactic(auto, using(crate::proofs::ScanlineLaws::decided, crate::proofs::ScanlineLaws::quads_few, crate::proofs::ScanlineLaws::bands_fine, crate::proofs::ScanlineLaws::quad_room, crate::proofs::ScanlineLaws::sound_ring))]
 fn write_scanline(
-    xs: &[f64],
-    ys: &[f64],
-    levels: &[f64],
+    bands: Bands<'_>,
+    heights: Heights,
     edges: &mut [usize],
     at: &mut [f64],
     n: usize,
-    z_bottom: f64,
-    z_top: f64,
     region: u32,
     counts: Counts,
-    nx: &mut [f64],
-    ny: &mut [f64],
-    nz: &mut [f64],
-    kinds: &mut [u8],
-    places: &mut [u32],
-    regions: &mut [u32],
+    lists: &mut MeshLists<'_>,
 ) -> Result<Counts, Refusal>
-    requires worked { spec.Worked xs.now ys.now levels.now (length edges.old) (length at.old) × (levels.now ≡ levels_of ys.now) × (map_answer length (spec.scanline_of xs.now ys.now) ≡ given n) }
-    requires lists { (parallel (the_mesh nx.old ny.old nz.old kinds.old places.old regions.old) ≡ true) × (within counts (the_mesh nx.old ny.old nz.old kinds.old places.old regions.old) ≡ true) }
-    ensures { Adds (and_then (map_answer (spec.quads_part counts.nodes z_bottom z_top) (spec.scanline_of xs.now ys.now)) (fit_part counts (the_mesh nx.old ny.old nz.old kinds.old places.old regions.old))) counts region (the_mesh nx.old ny.old nz.old kinds.old places.old regions.old) (the_mesh nx.new ny.new nz.new kinds.new places.new regions.new) result }
+    requires worked { spec.Worked bands.ring.ring.ys.now (length edges.old) (length at.old) }
+    requires decided { map_answer length (spec.scanline_of bands.ring.ring.xs.now bands.ring.ring.ys.now) ≡ given n }
+    requires grows { Grows counts (held lists.old) }
+    ensures mesh { Appends (spec.scanned counts.nodes bands.entry.ring heights) counts region (held lists.old) (held lists.new) result }
+    ensures same { Same lists.old lists.new }
 {
-    if !has_room(8 * n, counts.nodes, nx.len()) {
+    if !has_room(8 * n, counts.nodes, lists.xs.len()) {
         return Err(Refusal::OutputTooShort);
     }
-    if !has_room(2 * n, counts.elements, kinds.len()) {
+    if !has_room(2 * n, counts.elements, lists.kinds.len()) {
         return Err(Refusal::OutputTooShort);
     }
-    write_bands(xs, ys, levels, edges, at, nx, ny, counts.nodes);
-    write_heights(nz, counts.nodes, n, z_bottom, z_top);
-    fill(kinds, counts.elements, 2 * n, 2);
-    write_pairs(places, 8 * counts.elements, n, counts.nodes);
-    fill(regions, counts.elements, 2 * n, region);
+    let xs = &mut *lists.xs;
+    let ys = &mut *lists.ys;
+    write_bands(bands, edges, at, xs, ys, counts.nodes);
+    write_heights(lists.zs, counts.nodes, n, heights);
+    fill(lists.kinds, counts.elements, 2 * n, 2);
+    write_pairs(lists.places, 8 * counts.elements, n, counts.nodes);
+    fill(lists.regions, counts.elements, 2 * n, region);
     Ok(Counts {
         nodes: counts.nodes + 8 * n,
         elements: counts.elements + 2 * n,
     })
 }
 
-// Meshes a ring of N points or fewer, cleaned once, by the scanline.
+// Meshes a ring of N points or fewer, cleaned once, by the scanline. Its room is of N entries, since there is no heap.
 fn mesh_levels<const N: usize>(
-    xs: &[f64],
-    ys: &[f64],
-    z_bottom: f64,
-    z_top: f64,
+    extrusion: Extrusion<'_>,
     region: u32,
     counts: Counts,
-    nx: &mut [f64],
-    ny: &mut [f64],
-    nz: &mut [f64],
-    kinds: &mut [u8],
-    places: &mut [u32],
-    regions: &mut [u32],
+    lists: &mut MeshLists<'_>,
 ) -> Result<Counts, Refusal>
-    requires ring { (ring_fault xs.now ys.now ≡ given tt) × (length ys.now ≤ N) × (N ≤ 512) }
-    requires lists { (parallel (the_mesh nx.old ny.old nz.old kinds.old places.old regions.old) ≡ true) × (within counts (the_mesh nx.old ny.old nz.old kinds.old places.old regions.old) ≡ true) }
-    ensures { Adds (and_then (map_answer (spec.quads_part counts.nodes z_bottom z_top) (spec.scanline_of xs.now ys.now)) (fit_part counts (the_mesh nx.old ny.old nz.old kinds.old places.old regions.old))) counts region (the_mesh nx.old ny.old nz.old kinds.old places.old regions.old) (the_mesh nx.new ny.new nz.new kinds.new places.new regions.new) result }
+    requires ring { (length extrusion.ring.ring.ys.now ≤ N) × (N ≤ 512) }
+    requires grows { Grows counts (held lists.old) }
+    ensures mesh { Appends (spec.scanned counts.nodes extrusion.entry.ring extrusion.entry.heights) counts region (held lists.old) (held lists.new) result }
+    ensures same { Same lists.old lists.new }
 {
     let mut levels = [0.0; N];
     let mut edges = [0usize; N];
     let mut at = [0.0; N];
-    let m = level_list(ys, &mut levels);
-    let n = scan_ring(xs, ys, &levels[..m], &mut edges, &mut at)?;
+    let m = level_list(extrusion.ring.ring.ys, &mut levels);
+    let bands = Bands {
+        ring: extrusion.ring,
+        levels: &levels[..m],
+    };
+    let n = scan_ring(bands, &mut edges, &mut at)?;
     write_scanline(
-        xs,
-        ys,
-        &levels[..m],
+        bands,
+        extrusion.heights,
         &mut edges,
         &mut at,
         n,
-        z_bottom,
-        z_top,
         region,
         counts,
-        nx,
-        ny,
-        nz,
-        kinds,
-        places,
-        regions,
+        lists,
     )
 }
 
-// Meshes a ring, cleaned once, by the scanline: 3, 9, 1, 11, 1, 12; with room to work in for a small ring or a large one. For callers that have
-// checked the ring and the mesh.
+// Meshes a ring, cleaned once, by the scanline: 3, 9, 1, 11, 1, 12; with room to work in for a small ring or a large one. A size chooses a const
+// parameter here and in `mesh_again`, `clip_ring`: a function that takes the step for either size would take two closures.
 pub fn mesh_scanline(
-    xs: &[f64],
-    ys: &[f64],
-    z_bottom: f64,
-    z_top: f64,
+    extrusion: Extrusion<'_>,
     region: u32,
     counts: Counts,
-    nx: &mut [f64],
-    ny: &mut [f64],
-    nz: &mut [f64],
-    kinds: &mut [u8],
-    places: &mut [u32],
-    regions: &mut [u32],
+    lists: &mut MeshLists<'_>,
 ) -> Result<Counts, Refusal>
-    requires { (ring_fault xs.now ys.now ≡ given tt) × (parallel (the_mesh nx.old ny.old nz.old kinds.old places.old regions.old) ≡ true) × (within counts (the_mesh nx.old ny.old nz.old kinds.old places.old regions.old) ≡ true) }
-    ensures { Adds (and_then (map_answer (spec.quads_part counts.nodes z_bottom z_top) (spec.scanline_of xs.now ys.now)) (fit_part counts (the_mesh nx.old ny.old nz.old kinds.old places.old regions.old))) counts region (the_mesh nx.old ny.old nz.old kinds.old places.old regions.old) (the_mesh nx.new ny.new nz.new kinds.new places.new regions.new) result }
+    requires { Grows counts (held lists.old) }
+    ensures mesh { Appends (spec.scanned counts.nodes extrusion.entry.ring extrusion.entry.heights) counts region (held lists.old) (held lists.new) result }
+    ensures same { Same lists.old lists.new }
 {
-    if xs.len() <= 32 {
-        return mesh_levels::<32>(
-            xs, ys, z_bottom, z_top, region, counts, nx, ny, nz, kinds, places, regions,
-        );
+    if extrusion.ring.ring.xs.len() <= 32 {
+        return mesh_levels::<32>(extrusion, region, counts, lists);
     }
-    mesh_levels::<512>(
-        xs, ys, z_bottom, z_top, region, counts, nx, ny, nz, kinds, places, regions,
-    )
+    mesh_levels::<512>(extrusion, region, counts, lists)
 }

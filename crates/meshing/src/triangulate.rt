@@ -1,8 +1,7 @@
 // Triangulating a ring: cleaned, walked round counter-clockwise, and clipped.
-ghost use Rattle.std.specs.Prelude.{◌+◌, ◌-◌, ◌*◌, ◌≤◌, ◌<◌, ◌≡◌, cond, length, take};
-ghost use Rattle.lists.specs.Answer.{given, map_answer};
+ghost use Rattle.std.specs.Prelude.{◌-◌, ◌*◌, ◌≤◌, ◌≡◌, length};
+ghost use Rattle.lists.specs.Answer.{map_answer};
 ghost use Rattle.lists.specs.Lists.{elems};
-ghost use Rattle.openrdson_core.specs.Points.{ring_fault};
 ghost use Rattle.meshing.specs.Triangles.{walk as walk_of, corners as corners_of, triples};
 ghost use Rattle.meshing.specs.Ring.{kept};
 ghost use Rattle.meshing.specs.Clipping.{clip};
@@ -13,7 +12,7 @@ ghost use Rattle.meshing.specs.Triangulate as spec;
 use crate::ears::clip_walk;
 use crate::ring::clean_into;
 use crate::writes::copy;
-use openrdson_core::{Refusal, polygon_signed_area, ring_check};
+use openrdson_core::{Refusal, Ring, SoundRing, polygon_signed_area};
 
 // How many vertices a cleaned ring has, and how many triangles.
 #[derive(Clone, Copy, Debug, PartialEq, Eq)]
@@ -22,111 +21,106 @@ pub struct Triangulation {
     pub triangles: usize,
 }
 
-// The vertex at place k of the walk round n vertices.
-fn walk_place(forward: bool, n: usize, k: usize) -> usize
-    requires { k < n }
-    ensures { result ≡ cond forward k (n - 1 - k) }
-{
-    if forward {
-        return k;
-    }
-    n - 1 - k
+// The corners of triangles, three after three.
+#[derive(Clone, Copy)]
+pub struct Corners<'a> {
+    pub places: &'a [u32],
+    ghost whole: { corners_of (triples places.now) ≡ places.now },
 }
 
-// Fills the first n places with the walk round n vertices: 0 to n - 1, reversed unless forward.
-#[tactic(auto, using(lists::proofs::Fills::no_elems, lists::proofs::Fills::one_elem, lists::proofs::Fills::all_elems, crate::proofs::WalkLaws::walk_filled))]
-fn fill_walk(walk: &mut [usize], n: usize, forward: bool)
-    requires { n ≤ length walk.old }
-    ensures { take n walk.new ≡ walk_of forward n }
+// Fills a list with the walk round as many vertices: 0 to n - 1, reversed unless forward, which is a value of the rule as n is.
+#[tactic(auto, using(lists::proofs::Fills::no_elems, lists::proofs::Fills::one_elem, lists::proofs::Fills::all_elems))]
+fn fill_walk(walk: &mut [usize], forward: bool)
+    ensures { walk.new ≡ walk_of forward (length walk.old) }
 {
-    for i in 0..n {
-        walk[i] = walk_place(forward, n, i);
+    for i in 0..walk.len() {
+        walk[i] = i;
+    }
+    if !forward {
+        walk.reverse();
     }
 }
 
 // Writes a cleaned ring and the corners of its triangles, where there is room; 12.
 fn write_cutting(
-    ring_x: &[f64],
-    ring_y: &[f64],
-    corners: &[u32],
+    ring: Ring<'_>,
+    corners: Corners<'_>,
     out_x: &mut [f64],
     out_y: &mut [f64],
     out_corners: &mut [u32],
 ) -> Result<Triangulation, Refusal>
-    requires { (length ring_x.now ≡ length ring_y.now) × (length out_x.old ≡ length out_y.old) × (corners_of (triples corners.now) ≡ corners.now) }
-    ensures { spec.Leaves (spec.fitted (length out_x.old) (length out_corners.old) (elems (length ring_x.now) (λ i. i)) (triples corners.now)) ring_x.now ring_y.now out_x.old out_y.old out_corners.old result out_x.new out_y.new out_corners.new }
+    requires { length out_x.old ≡ length out_y.old }
+    ensures { spec.Leaves (spec.fitted (length out_x.old) (length out_corners.old) (elems (length ring.entry.xs.now) (λ i. i)) (triples corners.entry.places.now)) ring.entry.xs.now ring.entry.ys.now out_x.old out_y.old out_corners.old result out_x.new out_y.new out_corners.new }
 {
-    if ring_x.len() > out_x.len() {
+    if ring.xs.len() > out_x.len() {
         return Err(Refusal::OutputTooShort);
     }
-    if corners.len() > out_corners.len() {
+    if corners.places.len() > out_corners.len() {
         return Err(Refusal::OutputTooShort);
     }
-    copy(ring_x, out_x, 0);
-    copy(ring_y, out_y, 0);
-    copy(corners, out_corners, 0);
+    copy(ring.xs, out_x, 0);
+    copy(ring.ys, out_y, 0);
+    copy(corners.places, out_corners, 0);
     Ok(Triangulation {
-        vertices: ring_x.len(),
-        triangles: corners.len() / 3,
+        vertices: ring.xs.len(),
+        triangles: corners.places.len() / 3,
     })
 }
 
-// Clips a ring of three points or more and N or fewer, walked round forward or reversed; 4.
-fn clip_around<const N: usize>(
-    xs: &[f64],
-    ys: &[f64],
+// Clips a ring of three points or more and N or fewer, walked round forward or reversed; 4. The corners stand at the start of `room`.
+// The walk is in N places, since there is no heap.
+fn clip_around<'a, const N: usize>(
+    ring: Ring<'_>,
     forward: bool,
-    corners: &mut [u32],
-) -> Result<(), Refusal>
-    requires { (length ys.now ≡ length xs.now) × (3 ≤ length xs.now) × (length xs.now ≤ N) × (N ≤ 512) × ((length xs.now - 2) * 3 ≤ length corners.old) }
-    ensures { map_answer (λ _. take ((length xs.now - 2) * 3) corners.new) (answer result) ≡ map_answer corners_of (clip (is_ear xs.now ys.now) (walk_of forward (length xs.now))) }
+    room: &'a mut [u32],
+) -> Result<Corners<'a>, Refusal>
+    requires { (3 ≤ length ring.xs.now) × (length ring.xs.now ≤ N) × (N ≤ 512) × ((length ring.xs.now - 2) * 3 ≤ length room.old) }
+    ensures { map_answer (λ c. triples c.places.now) (answer result) ≡ clip (is_ear ring.entry.xs.now ring.entry.ys.now) (walk_of forward (length ring.entry.xs.now)) }
 {
-    let n = xs.len();
-    let mut walk = [0usize; N];
-    fill_walk(&mut walk, n, forward);
-    clip_walk(xs, ys, &mut walk[..n], corners)
+    let n = ring.xs.len();
+    let mut vertices = [0usize; N];
+    let walk = &mut vertices[..n];
+    fill_walk(walk, forward);
+    clip_walk(ring, walk, room)?;
+    let places = &room[..(n - 2) * 3];
+    Ok(Corners { places })
 }
 
-// Clips a ring of three points or more, walked round in the direction of its area; 4. For callers that have checked the ring, which has an area then.
-pub fn clip_ring(xs: &[f64], ys: &[f64], corners: &mut [u32]) -> Result<(), Refusal>
-    requires { (ring_fault xs.now ys.now ≡ given tt) × (3 ≤ length xs.now) × ((length xs.now - 2) * 3 ≤ length corners.old) }
-    ensures { map_answer (λ _. take ((length xs.now - 2) * 3) corners.new) (answer result) ≡ map_answer corners_of (triangles_of xs.now ys.now) }
+// Clips a ring of three points or more, walked round in the direction of its area; 4. A sound ring has an area.
+#[tactic(auto, using(crate::proofs::TriangulateLaws::sound_fault))]
+pub fn clip_ring<'a>(sound: SoundRing<'_>, room: &'a mut [u32]) -> Result<Corners<'a>, Refusal>
+    requires { (3 ≤ length sound.ring.xs.now) × ((length sound.ring.xs.now - 2) * 3 ≤ length room.old) }
+    ensures { map_answer (λ c. triples c.places.now) (answer result) ≡ triangles_of sound.entry.ring.xs.now sound.entry.ring.ys.now }
 {
-    let area = polygon_signed_area(xs, ys)?;
+    let ring = sound.ring;
+    let area = polygon_signed_area(ring.xs, ring.ys)?;
     let forward = !(area < 0.0);
-    if xs.len() <= 32 {
-        return clip_around::<32>(xs, ys, forward, corners);
+    if ring.xs.len() <= 32 {
+        return clip_around::<32>(ring, forward, room);
     }
-    clip_around::<512>(xs, ys, forward, corners)
+    clip_around::<512>(ring, forward, room)
 }
 
-// With the ring checked, and lists of points equally long: 3, 4, 12, or the ring and its triangles are written.
-fn triangulate_checked(
-    xs: &[f64],
-    ys: &[f64],
+// With lists of points equally long: 3, 4, 12, or the ring and its triangles are written.
+#[tactic(auto, using(crate::proofs::TriangulateLaws::kept_sound))]
+fn triangulate_sound(
+    sound: SoundRing<'_>,
     out_x: &mut [f64],
     out_y: &mut [f64],
     out_corners: &mut [u32],
 ) -> Result<Triangulation, Refusal>
-    requires { (ring_fault xs.now ys.now ≡ given tt) × (length out_x.old ≡ length out_y.old) }
-    ensures { spec.Leaves (spec.cutting xs.now ys.now (length out_x.old) (length out_corners.old) (kept xs.now ys.now)) xs.now ys.now out_x.old out_y.old out_corners.old result out_x.new out_y.new out_corners.new }
+    requires { length out_x.old ≡ length out_y.old }
+    ensures { spec.Leaves (spec.cutting sound.entry.ring.xs.now sound.entry.ring.ys.now (length out_x.old) (length out_corners.old) (kept sound.entry.ring.xs.now sound.entry.ring.ys.now)) sound.entry.ring.xs.now sound.entry.ring.ys.now out_x.old out_y.old out_corners.old result out_x.new out_y.new out_corners.new }
 {
     let mut ring_x = [0.0; 512];
     let mut ring_y = [0.0; 512];
-    let n = clean_into(xs, ys, &mut ring_x, &mut ring_y);
-    if n < 3 {
+    let ring = clean_into(sound.ring, &mut ring_x, &mut ring_y);
+    if ring.xs.len() < 3 {
         return Err(Refusal::TooFewVertices);
     }
-    let mut corners = [0u32; 1530];
-    clip_ring(&ring_x[..n], &ring_y[..n], &mut corners)?;
-    write_cutting(
-        &ring_x[..n],
-        &ring_y[..n],
-        &corners[..(n - 2) * 3],
-        out_x,
-        out_y,
-        out_corners,
-    )
+    let mut room = [0u32; 1530];
+    let corners = clip_ring(SoundRing { ring }, &mut room)?;
+    write_cutting(ring, corners, out_x, out_y, out_corners)
 }
 
 // Triangulates a ring: writes it cleaned, and the corners of its triangles, three after three, in cutting order; 16, 2, 1, 3, 4, 12.
@@ -143,6 +137,6 @@ pub fn triangulate_polygon(
     if out_x.len() != out_y.len() {
         return Err(Refusal::UnequalLists);
     }
-    ring_check(xs, ys)?;
-    triangulate_checked(xs, ys, out_x, out_y, out_corners)
+    let ring = Ring::checked(xs, ys)?;
+    triangulate_sound(ring, out_x, out_y, out_corners)
 }

@@ -1,12 +1,11 @@
 // The volume of a mesh: a prism's by its first triangle and its mean height, another element's by its bounding box.
-ghost use Rattle.std.specs.Prelude.{◌≡◌, ℕ, ◌*◌, ◌≤◌, ◌<◌, length, get_or};
-ghost use Rattle.lists.specs.Lists.{part};
+ghost use Rattle.std.specs.Prelude.{◌≡◌, ℕ, ◌<◌, length, get_or};
 ghost use Rattle.openrdson_core.specs.Answers.{answer};
-ghost use Rattle.openrdson_core.specs.Mesh.{the_mesh, kind_of, used_places};
+ghost use Rattle.openrdson_core.specs.Mesh.{kind_number, read};
 ghost use Rattle.meshing.specs.Volumes as spec;
 
-use crate::whole::mesh_check;
-use openrdson_core::{NodeNumber, Point3, Refusal};
+use crate::whole::{EvenMesh, SoundElement, SoundMesh};
+use openrdson_core::{ElementType, Mesh, Point3, Refusal};
 
 // From a to b.
 fn minus(b: Point3, a: Point3) -> Point3
@@ -59,45 +58,29 @@ fn mean_height(p: f64, q: f64, r: f64) -> f64
     (binary64::abs(p) + binary64::abs(q) + binary64::abs(r)) / 3.0
 }
 
-// The node with a number.
-fn node_of(xs: &[f64], ys: &[f64], zs: &[f64], node: NodeNumber) -> Point3
-    requires { (length ys.now ≡ length xs.now) × (length zs.now ≡ length xs.now) × (node.0 < length xs.now) }
-    ensures { result ≡ spec.node_at xs.now ys.now zs.now node.0 }
+// The volume of a prism.
+#[tactic(auto, unfolding(crate::specs::Volumes::prism_volume))]
+fn prism_volume(prism: SoundElement<'_>) -> f64
+    requires { length prism.used.now ≡ 6 }
+    ensures { result ≡ spec.prism_volume prism.entry.nodes.xs.now prism.entry.nodes.ys.now prism.entry.nodes.zs.now prism.entry.used.now }
 {
-    let i = node.0 as usize;
-    Point3::new(xs[i], ys[i], zs[i])
-}
-
-// The node that place k of an element names.
-fn node_at(xs: &[f64], ys: &[f64], zs: &[f64], places: &[u32], k: usize) -> Point3
-    requires { (length ys.now ≡ length xs.now) × (length zs.now ≡ length xs.now) × (k < length places.now) × (get_or places.now k 0 < length xs.now) }
-    ensures { result ≡ spec.node_at xs.now ys.now zs.now (get_or places.now k 0) }
-{
-    node_of(xs, ys, zs, NodeNumber(places[k]))
-}
-
-// The volume of a prism with these places. For callers that have found its six places to be nodes.
-fn prism_volume(xs: &[f64], ys: &[f64], zs: &[f64], places: &[u32]) -> f64
-    requires { (length ys.now ≡ length xs.now) × (length zs.now ≡ length xs.now) × (length places.now ≡ 8) × ((k : ℕ) → k < 6 → get_or places.now k 0 < length xs.now) }
-    ensures { result ≡ spec.prism_volume xs.now ys.now zs.now places.now }
-{
-    let a = node_at(xs, ys, zs, places, 0);
-    let b = node_at(xs, ys, zs, places, 1);
-    let c = node_at(xs, ys, zs, places, 2);
-    let d = node_at(xs, ys, zs, places, 3);
-    let e = node_at(xs, ys, zs, places, 4);
-    let f = node_at(xs, ys, zs, places, 5);
+    let a = prism.node(0);
+    let b = prism.node(1);
+    let c = prism.node(2);
+    let d = prism.node(3);
+    let e = prism.node(4);
+    let f = prism.node(5);
     triangle_area(a, b, c) * mean_height(d.z - a.z, e.z - b.z, f.z - c.z)
 }
 
-// How far the nodes at the first n places reach along one axis. For callers that have found them to be nodes.
-fn reach(l: &[f64], n: usize, places: &[u32]) -> f64
-    requires { (n ≤ length places.now) × ((k : ℕ) → k < n → get_or places.now k 0 < length l.now) }
-    ensures { result ≡ spec.reach l.now n places.now }
+// How far the nodes at these places reach along one axis.
+fn reach(l: &[f64], places: &[u32]) -> f64
+    requires { (k : ℕ) → k < length places.now → get_or places.now k 0 < length l.now }
+    ensures { result ≡ spec.reach l.now (length places.now) places.now }
 {
     let mut least = binary64::infinity();
     let mut most = binary64::minus_infinity();
-    for k in 0..n {
+    for k in 0..places.len() {
         let v = l[places[k] as usize];
         // Not std's min and max: of two zeros they take the other one.
         least = if v < least { v } else { least };
@@ -106,43 +89,36 @@ fn reach(l: &[f64], n: usize, places: &[u32]) -> f64
     most - least
 }
 
-// The volume of an element of this kind with these eight places. For callers that have found those that it uses to be nodes.
-fn element_volume(xs: &[f64], ys: &[f64], zs: &[f64], kind: u8, places: &[u32]) -> f64
-    requires { (length ys.now ≡ length xs.now) × (length zs.now ≡ length xs.now) × (length places.now ≡ 8) × ((k : ℕ) → k < used_places (kind_of kind) → get_or places.now k 0 < length xs.now) }
-    ensures { result ≡ spec.element_volume xs.now ys.now zs.now kind places.now }
+// The volume of an element.
+#[tactic(auto, using(crate::proofs::VolumeLaws::element_prism, crate::proofs::VolumeLaws::element_box))]
+fn element_volume(element: SoundElement<'_>) -> f64
+    ensures { result ≡ spec.element_volume element.entry.nodes.xs.now element.entry.nodes.ys.now element.entry.nodes.zs.now (kind_number element.entry.kind) element.entry.used.now }
 {
-    if kind == 2 {
-        return prism_volume(xs, ys, zs, places);
+    let nodes = element.nodes;
+    let used = element.used;
+    match element.kind {
+        ElementType::Prism => prism_volume(element),
+        _ => reach(nodes.xs, used) * reach(nodes.ys, used) * reach(nodes.zs, used),
     }
-    let n = openrdson_core::used_places(kind);
-    reach(xs, n, places) * reach(ys, n, places) * reach(zs, n, places)
 }
 
-// The volumes of the elements, one after the other. For callers that have checked the mesh.
-fn volume_of_elements(xs: &[f64], ys: &[f64], zs: &[f64], kinds: &[u8], places: &[u32]) -> f64
-    requires { (length ys.now ≡ length xs.now) × (length zs.now ≡ length xs.now) × (length places.now ≡ 8 * length kinds.now) × ((e k : ℕ) → e < length kinds.now → k < used_places (kind_of (get_or kinds.now e 0)) → get_or (part (8 * e) 8 places.now) k 0 < length xs.now) }
-    ensures { result ≡ spec.volume_below xs.now ys.now zs.now kinds.now places.now (length kinds.now) }
+// The volumes of the elements, one after the other.
+#[tactic(auto, using(lists::proofs::Folds::fold_start, lists::proofs::Folds::fold_more, lists::proofs::Folds::fold_end, crate::proofs::VolumeLaws::element_added), unfolding(crate::specs::Volumes::volume_below))]
+fn volume_of_elements(mesh: SoundMesh<'_>) -> f64
+    ensures { result ≡ spec.volume_below mesh.entry.mesh.lists.xs.now mesh.entry.mesh.lists.ys.now mesh.entry.mesh.lists.zs.now mesh.entry.mesh.lists.kinds.now mesh.entry.mesh.lists.places.now (length mesh.entry.mesh.lists.kinds.now) }
 {
     let mut sum = 0.0;
-    for e in 0..kinds.len() {
-        let first = 8 * e;
-        sum = sum + element_volume(xs, ys, zs, kinds[e], &places[first..first + 8]);
+    for e in 0..mesh.mesh.lists.kinds.len() {
+        sum = sum + element_volume(mesh.element(e));
     }
     sum
 }
 
 // The volume of a mesh, whose lists hold it and nothing past it; 16, 2, 1, 15, 13.
-#[tactic(auto, unfolding(crate::specs::Volumes::mesh_volume))]
-pub fn mesh_volume(
-    xs: &[f64],
-    ys: &[f64],
-    zs: &[f64],
-    kinds: &[u8],
-    places: &[u32],
-    regions: &[u32],
-) -> Result<f64, Refusal>
-    ensures { answer result ≡ spec.mesh_volume (the_mesh xs.now ys.now zs.now kinds.now places.now regions.now) }
+#[tactic(auto, unfolding(crate::specs::Volumes::mesh_volume, crate::specs::Whole::mesh_fault))]
+pub fn mesh_volume(mesh: Mesh<'_>) -> Result<f64, Refusal>
+    ensures { answer result ≡ spec.mesh_volume (read mesh.entry) }
 {
-    mesh_check(xs, ys, zs, kinds, places, regions, true)?;
-    Ok(volume_of_elements(xs, ys, zs, kinds, places))
+    let mesh = EvenMesh::new(mesh)?.checked()?;
+    Ok(volume_of_elements(mesh))
 }

@@ -1,73 +1,160 @@
 // What is asked of a mesh before it is welded or measured: its lists hold it and nothing past it.
-ghost use Rattle.std.specs.Prelude.{◌≡◌, ◌*◌, length};
+ghost use Rattle.std.specs.Prelude.{◌≡◌, ◌*◌, ◌<◌, ◌≤◌, ℕ, Some, true, length, get_or, take, IfOk};
+ghost use Rattle.lists.specs.Answer.{map_answer};
+ghost use Rattle.lists.specs.Lists.{part};
 ghost use Rattle.openrdson_core.specs.Answers.{answer};
-ghost use Rattle.openrdson_core.specs.Mesh.{the_mesh};
+ghost use Rattle.openrdson_core.specs.Mesh.{read, known, kind_of, node_count, used_places};
+ghost use Rattle.meshing.specs.Volumes.{node_at};
 ghost use Rattle.meshing.specs.Whole as spec;
 
-use openrdson_core::{Refusal, element_inside, element_sound, lists_parallel};
+use openrdson_core::{ElementType, Mesh, Point3, Refusal};
 
-// Whether every coordinate is finite and at most 2^20 in size. For callers that have found the lists equally long.
-fn nodes_in_range(xs: &[f64], ys: &[f64], zs: &[f64]) -> bool
-    requires { (length ys.now ≡ length xs.now) × (length zs.now ≡ length xs.now) }
-    ensures { result ≡ spec.nodes_in xs.now ys.now zs.now }
-{
-    let mut fine = true;
-    for i in 0..xs.len() {
-        fine = fine
-            & binary64::coordinate_in_range(xs[i])
-            & binary64::coordinate_in_range(ys[i])
-            & binary64::coordinate_in_range(zs[i]);
-    }
-    fine
+// Coordinates of nodes in three equally long lists.
+#[derive(Clone, Copy)]
+pub struct Nodes<'a> {
+    pub xs: &'a [f64],
+    pub ys: &'a [f64],
+    pub zs: &'a [f64],
+    ghost even: { (length ys.now ≡ length xs.now) × (length zs.now ≡ length xs.now) },
 }
 
-// 15 for an element whose kind is none of the four or that fills an unused place, then 13 for one whose place is no node's.
-// For callers that have found eight places a kind.
-fn elements_check(kinds: &[u8], places: &[u32], nodes: usize) -> Result<(), Refusal>
-    requires { length places.now ≡ 8 * length kinds.now }
-    ensures { answer result ≡ spec.elements_fault nodes kinds.now places.now }
-{
-    let mut inside = true;
-    for e in 0..kinds.len() {
-        if !element_sound(kinds, places, e) {
-            return Err(Refusal::OutsideList);
+impl Nodes<'_> {
+    // The node with number i.
+    pub fn node(self, i: usize) -> Point3
+        requires { i < length self.xs.now }
+        ensures { result ≡ node_at self.entry.xs.now self.entry.ys.now self.entry.zs.now i }
+    {
+        Point3::new(self.xs[i], self.ys[i], self.zs[i])
+    }
+
+    // Whether every coordinate is finite and at most 2^20 in size.
+    #[tactic(auto, using(lists::proofs::Scans::all_start, lists::proofs::Scans::all_noted), unfolding(crate::specs::Whole::nodes_in))]
+    pub fn is_in_range(self) -> bool
+        ensures { result ≡ spec.nodes_in self.entry.xs.now self.entry.ys.now self.entry.zs.now }
+    {
+        let mut fine = true;
+        for i in 0..self.xs.len() {
+            fine = fine
+                & (binary64::coordinate_in_range(self.xs[i])
+                    & binary64::coordinate_in_range(self.ys[i])
+                    & binary64::coordinate_in_range(self.zs[i]));
         }
-        inside = inside & element_inside(kinds, places, e, nodes);
+        fine
     }
-    if !inside {
-        return Err(Refusal::NodeOutsideMesh);
-    }
-    Ok(())
 }
 
-// Whether anything is against a mesh; `ok` says whether the number beside it is in range: 16, 2, 1, 15, 13.
-#[tactic(auto, using(openrdson_core::proofs::MeshLaws::equal_lengths), unfolding(crate::specs::Whole::mesh_fault))]
-pub fn mesh_check(
-    xs: &[f64],
-    ys: &[f64],
-    zs: &[f64],
-    kinds: &[u8],
-    places: &[u32],
-    regions: &[u32],
-    ok: bool,
-) -> Result<(), Refusal>
-    ensures { answer result ≡ spec.mesh_fault ok (the_mesh xs.now ys.now zs.now kinds.now places.now regions.now) }
-{
-    if !lists_parallel(
-        xs.len(),
-        ys.len(),
-        zs.len(),
-        kinds.len(),
-        places.len(),
-        regions.len(),
-    ) {
-        return Err(Refusal::UnequalLists);
+// A mesh in parallel lists of at most 2^20 nodes and elements.
+#[derive(Clone, Copy)]
+pub struct EvenMesh<'a> {
+    pub lists: Mesh<'a>,
+    ghost even: { (length lists.ys.now ≡ length lists.xs.now) × (length lists.zs.now ≡ length lists.xs.now) },
+    ghost same_regions: { length lists.regions.now ≡ length lists.kinds.now },
+    ghost eight_places: { length lists.places.now ≡ 8 * length lists.kinds.now },
+    ghost few_nodes: { length lists.xs.now ≤ 1048576 },
+    ghost few_elements: { length lists.kinds.now ≤ 1048576 },
+}
+
+// A mesh whose elements are sound and name its nodes.
+#[derive(Clone, Copy)]
+pub struct SoundMesh<'a> {
+    pub mesh: EvenMesh<'a>,
+    ghost known: { (e : ℕ) → e < length mesh.lists.kinds.now → known (kind_of (get_or mesh.lists.kinds.now e 0)) ≡ true },
+    ghost inside: { (e k : ℕ) → e < length mesh.lists.kinds.now → k < used_places (kind_of (get_or mesh.lists.kinds.now e 0)) → get_or (part (8 * e) 8 mesh.lists.places.now) k 0 < length mesh.lists.xs.now },
+}
+
+// An element of a mesh: its kind and the places that it uses, each of them a node's.
+#[derive(Clone, Copy)]
+pub struct SoundElement<'a> {
+    pub nodes: Nodes<'a>,
+    pub kind: ElementType,
+    pub used: &'a [u32],
+    ghost many: { length used.now ≡ node_count kind },
+    ghost inside: { (k : ℕ) → k < length used.now → get_or used.now k 0 < length nodes.xs.now },
+}
+
+impl<'a> EvenMesh<'a> {
+    // The mesh in these lists; 16, 2.
+    #[tactic(auto, using(openrdson_core::proofs::MeshLaws::equal_lengths))]
+    pub fn new(lists: Mesh<'a>) -> Result<Self, Refusal>
+        ensures size { map_answer (λ _. tt {0}) (answer result) ≡ spec.mesh_size (read lists.entry) }
+        ensures lists { IfOk result (λ m. read m.lists ≡ read lists.entry) }
+    {
+        if !lists.is_parallel() {
+            return Err(Refusal::UnequalLists);
+        }
+        if !((lists.xs.len() <= 1048576) & (lists.kinds.len() <= 1048576)) {
+            return Err(Refusal::ListTooLong);
+        }
+        Ok(EvenMesh { lists })
     }
-    if !((xs.len() <= 1048576) & (kinds.len() <= 1048576)) {
-        return Err(Refusal::ListTooLong);
+
+    pub fn nodes(self) -> Nodes<'a>
+        ensures { (result.xs.now ≡ self.entry.lists.xs.now) × (result.ys.now ≡ self.entry.lists.ys.now) × (result.zs.now ≡ self.entry.lists.zs.now) }
+    {
+        let Mesh { xs, ys, zs, .. } = self.lists;
+        Nodes { xs, ys, zs }
     }
-    if !(nodes_in_range(xs, ys, zs) & ok) {
-        return Err(Refusal::NumberOutOfRange);
+
+    // The mesh, its coordinates in range and its elements sound; 1, 15, 13.
+
+    pub fn checked(self) -> Result<SoundMesh<'a>, Refusal>
+        ensures fault { map_answer (λ _. tt {0}) (answer result) ≡ spec.contents_fault (read self.entry.lists) }
+        ensures lists { IfOk result (λ m. read m.mesh.lists ≡ read self.entry.lists) }
+    {
+        if !self.nodes().is_in_range() {
+            return Err(Refusal::NumberOutOfRange);
+        }
+        self.elements_check()?;
+        Ok(SoundMesh { mesh: self })
     }
-    elements_check(kinds, places, xs.len())
+
+    // 15 for an element whose kind is none of the four or that fills an unused place, then 13 for one whose place is no node's.
+    #[tactic(auto, using(lists::proofs::Scans::all_start, lists::proofs::Scans::all_more, lists::proofs::Scans::all_noted, crate::proofs::WholeLaws::not_sound, crate::proofs::WholeLaws::some_outside, crate::proofs::WholeLaws::all_inside))]
+    fn elements_check(self) -> Result<(), Refusal>
+        ensures { answer result ≡ spec.elements_fault (length self.entry.lists.xs.now) self.entry.lists.kinds.now self.entry.lists.places.now }
+    {
+        let nodes = self.lists.xs.len();
+        let mut inside = true;
+        for e in 0..self.lists.kinds.len() {
+            let element = self.lists.element(e);
+            if !element.is_sound() {
+                return Err(Refusal::OutsideList);
+            }
+            inside = inside & element.is_inside(nodes);
+        }
+        if !inside {
+            return Err(Refusal::NodeOutsideMesh);
+        }
+        Ok(())
+    }
+}
+
+impl<'a> SoundMesh<'a> {
+    // Element e.
+    pub fn element(self, e: usize) -> SoundElement<'a>
+        requires { e < length self.mesh.lists.kinds.now }
+        ensures kind { Some result.kind ≡ kind_of (get_or self.entry.mesh.lists.kinds.now e 0) }
+        ensures used { result.used.now ≡ take (node_count result.kind) (part (8 * e) 8 self.entry.mesh.lists.places.now) }
+        ensures nodes { (result.nodes.xs.now ≡ self.entry.mesh.lists.xs.now) × (result.nodes.ys.now ≡ self.entry.mesh.lists.ys.now) × (result.nodes.zs.now ≡ self.entry.mesh.lists.zs.now) }
+    {
+        let element = self.mesh.lists.element(e);
+        let Ok(kind) = ElementType::try_from(element.kind) else {
+            unreachable!()
+        };
+        SoundElement {
+            nodes: self.mesh.nodes(),
+            kind,
+            used: &element.places[..kind.node_count()],
+        }
+    }
+}
+
+impl SoundElement<'_> {
+    // The node that place k names.
+    pub fn node(self, k: usize) -> Point3
+        requires { k < length self.used.now }
+        ensures { result ≡ node_at self.entry.nodes.xs.now self.entry.nodes.ys.now self.entry.nodes.zs.now (get_or self.entry.used.now k 0) }
+    {
+        self.nodes.node(self.used[k] as usize)
+    }
 }

@@ -1,4 +1,4 @@
-// Writes of a list, of one value over and over, and of eight entries. For callers that have found room.
+// Writes of a list, of one value over and over, and of eight entries. For callers that have found room: how much goes with what is written.
 ghost use Rattle.std.specs.Prelude.{◌≡◌, ◌+◌, ◌≤◌, length};
 ghost use Rattle.lists.specs.Lists.{put, elems};
 

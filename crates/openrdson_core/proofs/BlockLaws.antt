@@ -13,6 +13,9 @@ use Rattle.lists.proofs.Scans.{both}
 use Rattle.lists.proofs.Searches.{first_below}
 use Rattle.openrdson_core.specs.Bytes.{same, unpad}
 use Rattle.openrdson_core.specs.Blocks.{width_of, cell_ok, count, key_at, value_at, distinct, block_ok, row_of}
+use Rattle.openrdson_core.specs.Tech.{Sound}
+use Rattle.openrdson_core.specs.SoundBlocks.{sound_bytes}
+use Rattle.openrdson_core.specs.declared.tech.SoundBlocks.{SoundBlocks}
 use Rattle.openrdson_core.specs.declared.blocks.Cell.{Cell}
 use Rattle.openrdson_core.specs.declared.blocks.Cell.TheVariants.{Name}
 
@@ -45,3 +48,15 @@ row_below s name i e = let h : i < 0 + count s = first_below (λ k. same (unpad 
 -- the same, said of the search
 pub row_found : (s name : List ℕ) (i : ℕ) → row_of s name ≡ Some i → (row_of s name ≡ Some i) × (i < count s)
 row_found s name i e = (e, row_below s name i (sym e))
+
+-- none of six sound blocks is damaged
+pub blocks_sound : (b : SoundBlocks) → Sound (sound_bytes b)
+blocks_sound b =
+    record {
+      names = b.names.sound;
+      conducting = b.conducting.sound;
+      via = b.via.sound;
+      conductors = b.conductors.sound;
+      diffusions = b.diffusions.sound;
+      vias = b.vias.sound;
+    }

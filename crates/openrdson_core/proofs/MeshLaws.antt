@@ -2,15 +2,18 @@
 use mathlib.Core.Path.{◌≡◌, refl, sym, ap, ◌∙◌}
 use mathlib.Core.Bool.{Bool, true, false, ◌&&◌, ◌||◌}
 use mathlib.Core.List.{List}
-use Rattle.std.specs.Prelude.{Option, Some, None}
-use Prim.Native.Nat.{ℕ, ◌+◌, ◌*◌, ◌/◌, ◌%◌, ◌<◌, ◌≤◌}
+use Rattle.std.specs.Prelude.{Option, Some, None, option_map, unwrap_or}
+use Prim.Native.Nat.{ℕ, ◌+◌, ◌-◌, ◌*◌, ◌/◌, ◌%◌, ◌<◌, ◌≤◌}
 use native.Mathlib.Omega.{arith}
 use lib.Dec.{eqb, leb, ltb}
-use lib.ListN.{length, get_or}
+use lib.ListN.{length, get_or, take, drop, length-drop}
+use lib.Seq.{length-take-le, get_or-take, get_or-drop}
+use mathlib.Core.Logic.{⊎_elim}
+use Rattle.std.proofs.lemmas.Bool.{cases_lt}
 use borrow.Author.Tests.{eq-eqb, ne_eqb, eqb-true, lt-ltb, le-ltb, ltb-true, leb-true}
 use Rattle.lists.specs.Lists.{all_below}
 use Rattle.lists.proofs.Parts.{part_at}
-use Rattle.lists.proofs.Scans.{both, all_from, all_more, all_fails, all_at}
+use Rattle.lists.proofs.Scans.{both, all_from, all_at, all_same}
 use Rattle.openrdson_core.specs.Mesh.{Mesh, unused, kind_number, node_count, kind_of, parallel_lengths, parallel, within_lengths, within, fits, known, used_places, rest_unused, first_below, sound_element, valid_element, kind_at, places_of, used_of, kind_ok, unused_ok, used_below, element_ok, well_formed}
 use Rattle.openrdson_core.specs.declared.mesh.ElementType.{ElementType}
 use Rattle.openrdson_core.specs.declared.mesh.ElementType.TheVariants.{Tet, Hex, Prism, Pyramid}
@@ -103,12 +106,25 @@ module _ (n : ℕ) (places : List ℕ) where
   pub rest_start : all_below n empty_at ≡ true
   rest_start = all_from empty_at n (λ i l. rw (lt-ltb i n l))
 
-  pub rest_more : (i : ℕ) → n ≤ i → all_below i empty_at ≡ true → get_or places i 0 ≡ unused → all_below (i + 1) empty_at ≡ true
-  rest_more i l e is = all_more empty_at i e (rw (le-ltb i n l, eq-eqb (get_or places i 0) unused is))
-
-  pub rest_filled : (i : ℕ) → n ≤ i → i < 8 → (get_or places i 0 ≡ unused → ⊥) → rest_unused n places ≡ false
+  -- the places from n on, as a list of their own
+  pub rest_is : n ≤ 8 → length places ≡ 8 → all_below (length (drop n places)) (λ i. eqb (get_or (drop n places) i 0) unused) ≡ rest_unused n places
   unfolding rest_unused
-  rest_filled i l k not = all_fails empty_at 8 i k (rw (le-ltb i n l, ne_eqb (get_or places i 0) unused not))
+  rest_is m e =
+      let here = λ (i : ℕ). eqb (get_or (drop n places) i 0) unused in
+      let count : length (drop n places) ≡ 8 - n = omega (arith, length-drop n places) in
+      same_test
+      (all_below (length (drop n places)) here)
+      (all_below 8 empty_at)
+      (λ h. all_from empty_at 8 (λ i l. ⊎_elim
+      (λ (k : i < n). rw (lt-ltb i n k))
+      (λ (k : n ≤ i).
+      let at : n + (i - n) ≡ i = omega arith in
+      rw (le-ltb i n k) (ap (λ (j : ℕ). eqb (get_or places j 0) unused) (sym at) ∙ ap (λ (p : ℕ). eqb p unused) (sym (get_or-drop n places (i - n) 0)) ∙ all_at here (length (drop n places)) h (i - n) (omega arith)))
+      (cases_lt i n)))
+      (λ h. all_from here (length (drop n places)) (λ i l.
+      let k : n ≤ n + i = omega arith in
+      let at : (ltb (n + i) n || eqb (get_or places (n + i) 0) unused) ≡ true = all_at empty_at 8 h (n + i) (omega arith) in
+      ap (λ (p : ℕ). eqb p unused) (get_or-drop n places i 0) ∙ (sym (rw (le-ltb (n + i) n k)) ∙ at)))
 
 module _ (nodes : ℕ) (places : List ℕ) where
   -- place i is below the number of nodes
@@ -126,22 +142,25 @@ module _ (nodes : ℕ) (places : List ℕ) where
   first_wider n {more} h e =
       all_from (λ i. ltb (get_or places i 0) more) n (λ i l. lt-ltb (get_or places i 0) more (omega (arith, place_below n e i l)))
 
--- there is such a kind where some place is used, and only there
-known_used : (o : Option ElementType) → (used_places o ≡ 0 → ⊥) → known o ≡ true
-known_used (Some t) h = refl
-known_used None h = absurd (h refl)
+-- the first n places, as a list of their own
+pub first_are : (n nodes : ℕ) (places : List ℕ) → n ≤ length places → all_below (length (take n places)) (λ i. ltb (get_or (take n places) i 0) nodes) ≡ first_below n nodes places
+unfolding first_below
+first_are n nodes places h =
+    ap (λ (k : ℕ). all_below k (λ i. ltb (get_or (take n places) i 0) nodes)) (length-take-le n places h)
+    ∙ all_same (λ i. ltb (get_or (take n places) i 0) nodes) (is_below_at nodes places) n (λ i l. ap (λ (p : ℕ). ltb p nodes) (get_or-take n places i 0 l))
 
-unknown_unused : (o : Option ElementType) → used_places o ≡ 0 → known o ≡ false
-unknown_unused (Some t) h = absurd (omega (arith, used_some t))
-unknown_unused None h = refl
+-- how many places a kind uses, as a program tells it
+pub used_is : (o : Option ElementType) → unwrap_or (option_map node_count o) 0 ≡ used_places o
+used_is (Some t) = refl
+used_is None = refl
 
--- of an element that uses n places: it is not sound where n is 0, else its places from n on decide
-module _ (k : ℕ) (places : List ℕ) {n : ℕ} (is : n ≡ used_places (kind_of k)) where
-  pub sound_none : n ≡ 0 → sound_element k places ≡ false
-  sound_none e = rw (unknown_unused (kind_of k) (sym is ∙ e))
-
-  pub sound_is : (n ≡ 0 → ⊥) → sound_element k places ≡ rest_unused n places
-  sound_is h = rw (known_used (kind_of k) (λ e. h (is ∙ e))) (ap (λ (i : ℕ). rest_unused i places) (sym is))
+-- an element of a kind that uses n places is sound where the places from n on are unused
+pub sound_is : (k n : ℕ) (places : List ℕ) → Some n ≡ option_map node_count (kind_of k) → sound_element k places ≡ rest_unused n places
+sound_is k n places = of (kind_of k)
+  where
+    of : (o : Option ElementType) → Some n ≡ option_map node_count o → (known o && rest_unused (used_places o) places) ≡ rest_unused n places
+    of (Some t) e = let same : n ≡ node_count t = cc in ap (λ (i : ℕ). rest_unused i places) (sym same)
+    of None e = cc
 
 -- ---- an element of a mesh
 

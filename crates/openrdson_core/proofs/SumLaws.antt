@@ -1,22 +1,32 @@
 -- Partial sums of the shoelace rule, and what the bit patterns of their points tell of the points' range. Assumes nothing.
-use mathlib.Core.Path.{◌≡◌, ap, ◌∙◌, subst}
-use mathlib.Core.Bool.{true}
+use mathlib.Core.Path.{◌≡◌, refl, sym, ap, ◌∙◌, subst}
+use mathlib.Core.Bool.{Bool, true, false, ◌&&◌}
 use mathlib.Core.List.{List}
 use Prim.Native.Nat.{ℕ, zero, suc, ◌+◌, ◌-◌, ◌/◌, ◌%◌, ◌^◌, ◌≤◌, ◌<◌}
 use native.Mathlib.Nat.{add-zero}
 use native.Mathlib.Omega.{arith}
 use lib.Bits.{bit_or}
+use lib.ListN.{length}
+use Rattle.lists.specs.Lists.{all_below}
 use lib.Ieee.{Float, le}
 use Rattle.lists.proofs.Scans.{all_start, all_more}
 use Rattle.binary64.specs.Numbers.{◌⊕◌, ◌⊗◌, at_most, at}
 use Rattle.binary64.proofs.Order.{both}
 use Rattle.binary64.proofs.NotNumbers.{sum_numbers, difference_numbers, product_numbers}
 use Rattle.binary64.proofs.Patterns.{clear_or}
-use Rattle.openrdson_core.specs.Points.{point_at, point_in}
+use Rattle.openrdson_core.specs.Points.{point_at, point_in, points_in}
 use Rattle.openrdson_core.specs.Area.{cross, shoelace}
 use Rattle.openrdson_core.specs.Sums.{Small}
 use Rattle.openrdson_core.specs.declared.points.Point.{Point}
 use Rattle.openrdson_core.proofs.Areas.{sum_step}
+
+and_true : (b : Bool) → (b && true) ≡ b
+and_true true = refl
+and_true false = refl
+
+and_assoc : (a b c : Bool) → ((a && b) && c) ≡ (a && (b && c))
+and_assoc true b c = refl
+and_assoc false b c = refl
 
 -- ---- both coordinates are numbers
 abbrev pub Whole : Point → Type 0
@@ -58,3 +68,30 @@ module _ (xs ys : List Float) where
       let t = clear_or (bit_or bits x) y h in
       let u = clear_or bits x t.0 in
       all_more (λ k. point_in (point_at xs ys k)) i (w u.0) (both (at_most 20 (at xs i)) (at_most 20 (at ys i)) (f u.1) (g t.1))
+
+-- ---- whether points are in range
+
+module _ (test : ℕ → Bool) where
+  -- the first n places, then `count` more
+  all_joined : (n count : ℕ) → all_below (n + count) test ≡ (all_below n test && all_below count (λ k. test (n + k)))
+  unfolding all_below
+  all_joined n zero = ap (λ (k : ℕ). all_below k test) (add-zero n) ∙ sym (and_true (all_below n test))
+  all_joined n (suc count) =
+      let e : n + suc count ≡ suc (n + count) = omega arith in
+      ap (λ (k : ℕ). all_below k test) e ∙ ap (λ (b : Bool). b && test (n + count)) (all_joined n count)
+      ∙ and_assoc (all_below n test) (all_below count (λ k. test (n + k))) (test (n + count))
+
+module _ (xs ys : List Float) where
+  abbrev In : ℕ → Bool
+  In k = point_in (point_at xs ys k)
+
+  -- `count` more points are tested
+  pub range_more : (i count : ℕ) {fine now : Bool} → fine ≡ all_below i (λ k. point_in (point_at xs ys k))
+      → now ≡ (fine && all_below count (λ k. point_in (point_at xs ys (i + k)))) → now ≡ all_below (i + count) (λ k. point_in (point_at xs ys k))
+  range_more i count f n = n ∙ ap (λ (b : Bool). b && all_below count (λ k. In (i + k))) f ∙ sym (all_joined In i count)
+
+  -- some of the first i points are out of range
+  pub range_fails : (i : ℕ) → i ≤ length xs → all_below i (λ k. point_in (point_at xs ys k)) ≡ false → points_in xs ys ≡ false
+  range_fails i h e =
+      let split : length xs ≡ i + (length xs - i) = omega arith in
+      ap (λ (n : ℕ). all_below n In) split ∙ all_joined In i (length xs - i) ∙ ap (λ (b : Bool). b && all_below (length xs - i) (λ k. In (i + k))) e

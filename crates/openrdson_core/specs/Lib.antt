@@ -13,4 +13,5 @@ pub mod Blocks
 pub mod Maps
 pub mod Tech
 pub mod Layout
+pub mod SoundBlocks
 pub mod Mesh

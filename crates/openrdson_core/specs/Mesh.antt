@@ -6,6 +6,8 @@ use Rattle.openrdson_core.specs.declared.mesh.ElementType.TheVariants.{Tet, Hex,
 use Rattle.openrdson_core.specs.declared.mesh.UnknownKind.{UnknownKind}
 use Rattle.openrdson_core.specs.declared.mesh.Point3.{Point3}
 use Rattle.openrdson_core.specs.declared.mesh.Counts.{Counts}
+use Rattle.openrdson_core.specs.declared.mesh.Mesh.{Mesh as Read}
+use Rattle.openrdson_core.specs.declared.mesh.MeshLists.{MeshLists}
 
 -- ---- kinds of elements
 
@@ -27,10 +29,10 @@ node_count Pyramid = 5
 unfoldable pub kind_of : ℕ → Option ElementType
 kind_of k = cond (eqb k 0) (Some Tet) (cond (eqb k 1) (Some Hex) (cond (eqb k 2) (Some Prism) (cond (eqb k 3) (Some Pyramid) None)))
 
--- the kind that a number stands for, or an error where it stands for none
+-- the kind that a number stands for, or an error with the number where it stands for none
 abbrev pub StandsFor : ℕ → Result ElementType UnknownKind → Type 0
 StandsFor k (Ok t) = kind_of k ≡ Some t
-StandsFor k (Err e) = kind_of k ≡ None
+StandsFor k (Err e) = (kind_of k ≡ None) × (e.0 ≡ k)
 
 -- there is such a kind
 abbrev pub known : Option ElementType → Bool
@@ -63,6 +65,23 @@ pub record Mesh : Type 0 where
 
 abbrev pub the_mesh : List Float → List Float → List Float → List ℕ → List ℕ → List ℕ → Mesh
 the_mesh xs ys zs kinds places regions = record { xs = xs; ys = ys; zs = zs; kinds = kinds; places = places; regions = regions }
+
+-- the mesh in lists that are read
+abbrev pub read : Read → Mesh
+read m = the_mesh m.xs.now m.ys.now m.zs.now m.kinds.now m.places.now m.regions.now
+
+-- the mesh in lists that are written
+abbrev pub held : MeshLists → Mesh
+held m = the_mesh m.xs.now m.ys.now m.zs.now m.kinds.now m.places.now m.regions.now
+
+-- they are the same lists: what one of them holds in the end, the caller's list holds
+pub record Same (m n : MeshLists) : Type 0 where
+  pub xs : n.xs.ghost_name ≡ m.xs.ghost_name
+  pub ys : n.ys.ghost_name ≡ m.ys.ghost_name
+  pub zs : n.zs.ghost_name ≡ m.zs.ghost_name
+  pub kinds : n.kinds.ghost_name ≡ m.kinds.ghost_name
+  pub places : n.places.ghost_name ≡ m.places.ghost_name
+  pub regions : n.regions.ghost_name ≡ m.regions.ghost_name
 
 abbrev pub the_counts : ℕ → ℕ → Counts
 the_counts nodes elements = record { nodes = nodes; elements = elements }

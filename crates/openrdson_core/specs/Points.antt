@@ -1,7 +1,7 @@
 -- Points and rings. A ring is two equally long lists, xs and ys, of at most 512 points.
-use Rattle.std.specs.Prelude.{ℕ, Bool, ◌&&◌, List, eqb, leb, length, Float}
+use Rattle.std.specs.Prelude.{ℕ, ◌+◌, Bool, ◌&&◌, cond, List, eqb, leb, length, Float, Option, Some, None}
 use Rattle.lists.specs.Answer.{Answer, given, unless, and_then}
-use Rattle.lists.specs.Lists.{all_below}
+use Rattle.lists.specs.Lists.{all_below, part}
 use Rattle.binary64.specs.Numbers.{at, at_most}
 use Rattle.openrdson_core.specs.declared.points.Point.{Point}
 
@@ -17,6 +17,14 @@ point_in p = at_most 20 p.x && at_most 20 p.y
 
 abbrev pub points_in : List Float → List Float → Bool
 points_in xs ys = all_below (length xs) (λ i. point_in (point_at xs ys i))
+
+-- two point lists are equally long: 16
+abbrev pub even_points : ℕ → ℕ → Answer (Unit {0})
+even_points m n = unless (eqb m n) 16 (given tt)
+
+-- `count` entries of both from place `start` on, where the lists have them
+unfoldable pub points_part : List Float → List Float → ℕ → ℕ → Option (List Float × List Float)
+points_part xs ys start count = cond (leb (start + count) (length xs)) (Some (part start count xs, part start count ys)) None
 
 -- When a call on a ring is turned down: 16, 2, 1. The first two are known from the lists' lengths.
 abbrev pub ring_size : ℕ → ℕ → Answer (Unit {0})

@@ -7,6 +7,7 @@ use Rattle.openrdson_core.specs.Points.{the_point, point_in, of_ring}
 use Rattle.openrdson_core.specs.Area.{area}
 use Rattle.openrdson_core.specs.Bounds.{the_bbox, bounds_of}
 use Rattle.openrdson_core.specs.declared.bounds.Bbox.{Bbox}
+use Rattle.openrdson_core.specs.declared.solids.Heights.{Heights}
 use Rattle.openrdson_core.specs.declared.solids.Solid.{Solid}
 use Rattle.openrdson_core.specs.declared.solids.Solid.TheVariants.{Box, Prism}
 
@@ -59,6 +60,9 @@ z_bottom_of (Prism z0 z1 start count) = z0
 abbrev pub z_top_of : Solid → Float
 z_top_of (Box x0 y0 x1 y1 z0 z1) = z1
 z_top_of (Prism z0 z1 start count) = z1
+
+abbrev pub heights_of : Solid → Heights
+heights_of s = record { bottom = z_bottom_of s; top = z_top_of s }
 
 unfoldable pub footprint : List Float → List Float → Solid → Bbox
 footprint xs ys (Box x0 y0 x1 y1 z0 z1) = the_bbox x0 y0 x1 y1

@@ -1,5 +1,5 @@
 -- The stack: conductors, diffusions and vias by name, material numbers, and what the blocks must be.
-use Rattle.std.specs.Prelude.{ℕ, ◌+◌, Bool, not, ◌&&◌, ◌||◌, cond, List, Float, Option, Some, None, option_map, IfSome}
+use Rattle.std.specs.Prelude.{ℕ, ◌+◌, ◌≡◌, Bool, true, not, ◌&&◌, ◌||◌, cond, List, Float, Option, Some, None, option_map, IfSome}
 use Rattle.std.specs.Float.{binary64}
 use Rattle.std.specs.Float.Ieee.{of_bits}
 use Rattle.lists.specs.Answer.{Answer, given, unless}
@@ -10,6 +10,7 @@ use Rattle.openrdson_core.specs.Blocks.{has_height, has_thickness, count, value_
 use Rattle.openrdson_core.specs.Maps.{spanned, span_within, span_from}
 use Rattle.openrdson_core.specs.declared.blocks.Cell.TheVariants as cell
 use Rattle.openrdson_core.specs.declared.tech.Figures.{Figures}
+use Rattle.openrdson_core.specs.declared.tech.Blocks.{Blocks as Lent}
 use Rattle.openrdson_core.specs.declared.tech.ViaLayers.{ViaLayers}
 
 -- ---- a stack entry's figures
@@ -91,6 +92,36 @@ blocks_fault names conducting via conductors diffusions vias =
     (unless (vias_ok vias) 14
     (unless (stack_in conductors) 1
     (unless (stack_in diffusions) 1 (given tt))))))))
+
+-- ---- the six blocks together
+
+pub record Blocks : Type 0 where
+  pub names : List ℕ
+  pub conducting : List ℕ
+  pub via : List ℕ
+  pub conductors : List ℕ
+  pub diffusions : List ℕ
+  pub vias : List ℕ
+
+abbrev pub the_blocks : List ℕ → List ℕ → List ℕ → List ℕ → List ℕ → List ℕ → Blocks
+the_blocks names conducting via conductors diffusions vias =
+    record { names = names; conducting = conducting; via = via; conductors = conductors; diffusions = diffusions; vias = vias }
+
+-- what lent blocks hold
+abbrev pub bytes_of : Lent → Blocks
+bytes_of b = the_blocks b.names.now b.conducting.now b.via.now b.conductors.now b.diffusions.now b.vias.now
+
+abbrev pub fault_of : Blocks → Answer (Unit {0})
+fault_of b = blocks_fault b.names b.conducting b.via b.conductors b.diffusions b.vias
+
+-- none of them is damaged
+pub record Sound (b : Blocks) : Type 0 where
+  pub names : layer_names_ok b.names ≡ true
+  pub conducting : map_ok b.conducting ≡ true
+  pub via : map_ok b.via ≡ true
+  pub conductors : stack_ok b.conductors ≡ true
+  pub diffusions : stack_ok b.diffusions ≡ true
+  pub vias : vias_ok b.vias ≡ true
 
 -- ---- what a via's spans say
 

@@ -1,5 +1,5 @@
 // The area of a ring by the shoelace rule.
-ghost use Rattle.std.specs.Prelude.{◌≡◌, ◌+◌, ◌≤◌, ◌<◌, length, true};
+ghost use Rattle.std.specs.Prelude.{◌≡◌, ◌+◌, ◌≤◌, ◌<◌, length, true, false, IfSome, IfNone};
 ghost use Rattle.std.specs.Float.Ieee.{le};
 ghost use Rattle.lists.specs.Answer.{unless, given};
 ghost use Rattle.lists.specs.Lists.{all_below};
@@ -38,7 +38,7 @@ pub fn is_ccw(xs: &[f64], ys: &[f64]) -> Result<bool, Refusal>
 }
 
 // What the edge from a to b adds to the shoelace sum.
-fn cross_of(a: Point, b: Point) -> f64
+pub fn cross_of(a: Point, b: Point) -> f64
     ensures { result ≡ cross a b }
 {
     a.x * b.y - b.x * a.y
@@ -111,91 +111,79 @@ fn patterns_to(ring: Ring, from: usize, to: usize, start: u64) -> u64
     bits
 }
 
-// Whether the points before place `to` are in range, where `start` tells that of the points before place `from`.
-#[tactic(auto, using(lists::proofs::Scans::all_noted))]
-fn range_to(ring: Ring, from: usize, to: usize, start: bool) -> bool
-    requires ordered { from ≤ to }
-    requires inside { to ≤ length ring.xs.now }
-    requires noted { start ≡ all_below from (λ k. point_in (point_at ring.xs.now ring.ys.now k)) }
-    ensures { result ≡ all_below to (λ k. point_in (point_at ring.entry.xs.now ring.entry.ys.now k)) }
+// Whether the `count` points from place `from` on are in range.
+#[tactic(auto, using(lists::proofs::Scans::all_start, lists::proofs::Scans::all_noted))]
+fn are_in_range(ring: Ring, from: usize, count: usize) -> bool
+    requires inside { from + count ≤ length ring.xs.now }
+    ensures { result ≡ all_below count (λ k. point_in (point_at ring.entry.xs.now ring.entry.ys.now (from + k))) }
 {
-    let mut fine = start;
-    for i in from..to {
-        let here = ring.point(i);
+    let mut fine = true;
+    for k in 0..count {
+        let here = ring.point(from + k);
         fine = fine & here.is_in_range();
     }
     fine
 }
 
-// The sum over the edges from the first `count` points, and whether these are in range.
+// The sum over the edges from the first `count` points, which are in range.
 #[derive(Clone, Copy)]
 struct Partial {
     sum: f64,
-    fine: bool,
     count: usize,
 }
 
 // Eight edges a turn, while a ninth point is left, and no pattern so far has bit 62: every coordinate is then below 2 in size. A sum that is
 // not a number ends it too, since a not-a-number's pattern may not be asked for.
+#[tactic(auto, using(binary64::proofs::NotNumbers::same_number))]
 fn sum_of_small(ring: Ring) -> Partial
     requires some { 0 < length ring.xs.now }
     ensures inside { result.count < length ring.entry.xs.now }
-    ensures summed { Summed ring.entry.xs.now ring.entry.ys.now result.count result.sum result.fine }
+    ensures summed { Summed ring.entry.xs.now ring.entry.ys.now result.count result.sum true }
 {
-    let n = ring.xs.len();
-    let mut sum = 0.0;
+    let mut done = Partial { sum: 0.0, count: 0 };
     let mut bits = 0;
-    for turn in 0..(n - 1) / 8 {
-        let i = 8 * turn;
-        let next = add_eight(ring, i, sum);
-        if next != next {
-            return Partial {
-                sum,
-                fine: true,
-                count: i,
-            };
+    for turn in 0..(ring.xs.len() - 1) / 8 {
+        let count = 8 * turn + 8;
+        let sum = add_eight(ring, done.count, done.sum);
+        if sum != sum {
+            return done;
         }
-        bits = patterns_to(ring, i, i + 8, bits);
+        bits = patterns_to(ring, done.count, count, bits);
         if bits / 0x4000_0000_0000_0000 % 2 != 0 {
-            return Partial {
-                sum,
-                fine: true,
-                count: i,
-            };
+            return done;
         }
-        sum = next;
+        done = Partial { sum, count };
     }
-    Partial {
-        sum,
-        fine: true,
-        count: (n - 1) / 8 * 8,
-    }
+    done
 }
 
-// On by eight edges a turn, each point compared with the limit.
-fn sum_of_large(ring: Ring, from: Partial) -> Partial
+// On by eight edges a turn, each point compared with the limit; none where one is out of range. It is a loop beside the first: one test for
+// both would add the comparisons to the points that the patterns settle.
+#[tactic(auto, using(crate::proofs::SumLaws::range_more, crate::proofs::SumLaws::range_fails))]
+fn sum_of_large(ring: Ring, from: Partial) -> Option<Partial>
     requires inside { from.count < length ring.xs.now }
-    requires summed { Summed ring.xs.now ring.ys.now from.count from.sum from.fine }
-    ensures inside { result.count < length ring.entry.xs.now }
-    ensures summed { Summed ring.entry.xs.now ring.entry.ys.now result.count result.sum result.fine }
+    requires summed { Summed ring.xs.now ring.ys.now from.count from.sum true }
+    ensures inside { IfSome result (λ p. p.count < length ring.entry.xs.now) }
+    ensures summed { IfSome result (λ p. Summed ring.entry.xs.now ring.entry.ys.now p.count p.sum true) }
+    ensures none { IfNone result (points_in ring.entry.xs.now ring.entry.ys.now ≡ false) }
 {
-    let n = ring.xs.len();
     let mut sum = from.sum;
-    let mut fine = from.fine;
-    let turns = (n - 1 - from.count) / 8;
+    let mut fine = true;
+    let turns = (ring.xs.len() - 1 - from.count) / 8;
     for turn in 0..turns {
         let i = from.count + 8 * turn;
         sum = add_eight(ring, i, sum);
-        fine = range_to(ring, i, i + 8, fine);
+        fine = fine & are_in_range(ring, i, 8);
     }
-    Partial {
-        sum,
-        fine,
-        count: from.count + 8 * turns,
+    if !fine {
+        return None;
     }
+    let count = from.count + 8 * turns;
+    Some(Partial { sum, count })
 }
 
 // The signed area, or 1: the edges from each point to the next, then the one that closes the ring.
+#[tactic(auto, using(crate::proofs::Areas::sum_closed, crate::proofs::SumLaws::range_more), unfolding(crate::specs::Area::signed_area, lists::specs::Lists::all_below))]
 fn signed_area_of_points(ring: Ring) -> Result<f64, Refusal>
     ensures { answer result ≡ unless (points_in ring.entry.xs.now ring.entry.ys.now) 1 (given (signed_area ring.entry.xs.now ring.entry.ys.now)) }
 {
@@ -204,11 +192,11 @@ fn signed_area_of_points(ring: Ring) -> Result<f64, Refusal>
         return Ok(0.0);
     }
     let small = sum_of_small(ring);
-    let first = sum_of_large(ring, small);
+    let first = sum_of_large(ring, small).ok_or(Refusal::NumberOutOfRange)?;
     let most = add_to(ring, first.count, n - 1, first.sum);
     let last = ring.point(n - 1);
     let sum = most + cross_of(last, ring.point(0));
-    if !range_to(ring, first.count, n, first.fine) {
+    if !are_in_range(ring, first.count, n - first.count) {
         return Err(Refusal::NumberOutOfRange);
     }
     if n < 3 {

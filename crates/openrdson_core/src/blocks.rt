@@ -1,4 +1,4 @@
-// Name blocks: a count, then an array of keys and an array of values.
+// Name blocks: a count, then an array of keys and an array of values. What is asked of the length of a cell or a block goes with what is read of it.
 ghost use Rattle.std.specs.Prelude.{◌≡◌, true, false, not, ◌&&◌, ◌||◌, ◌+◌, ◌*◌, ◌≤◌, length};
 ghost use Rattle.lists.specs.Lists.{part, all_below, first};
 ghost use Rattle.openrdson_core.specs.Bytes.{same, zeros, unpad};
@@ -15,6 +15,7 @@ pub enum Cell {
     Ends,
 }
 
+// How many bytes a cell has. The kinds are told apart here and in `is_cell` alone.
 fn width(cell: Cell) -> usize
     ensures value { result ≡ spec.width_of cell }
     ensures bound { result ≤ 64 }
@@ -27,7 +28,7 @@ fn width(cell: Cell) -> usize
     }
 }
 
-// Whether a stack entry's flag byte is known and its absent figures are zero.
+// Whether a stack entry's flag byte is known and its absent figures are zero: of the flag and the bytes that are no figures, which `entry_at` leaves out.
 #[tactic(auto, unfolding(crate::specs::Blocks::figures_ok))]
 fn is_stack_entry(c: &[u8]) -> bool
     requires { length c.now ≡ 17 }
@@ -90,7 +91,7 @@ fn is_new(s: &[u8], w: usize, n: usize) -> bool
     true
 }
 
-// Whether no two of the n cells of w bytes that start at place 2 are the same.
+// Whether no two of the n cells of w bytes that start at place 2 are the same. `all` over the cells was tried: its proof does not close.
 #[tactic(auto, using(lists::proofs::Scans::all_start, lists::proofs::Scans::all_more))]
 fn are_distinct(s: &[u8], w: usize, n: usize) -> bool
     requires { 2 + n * w ≤ length s.now }
@@ -104,7 +105,7 @@ fn are_distinct(s: &[u8], w: usize, n: usize) -> bool
     true
 }
 
-// Whether s is a block of these keys and values, `once` where no key may stand twice.
+// Whether s is a block of these keys and values, `once` where no key may stand twice: a flag, since a closure for one test more is no plainer.
 #[tactic(auto, unfolding(crate::specs::Blocks::block_ok))]
 pub fn is_block(s: &[u8], key: Cell, value: Cell, once: bool) -> bool
     ensures { result ≡ spec.block_ok key value once s.now }
@@ -124,7 +125,7 @@ pub fn is_block(s: &[u8], key: Cell, value: Cell, once: bool) -> bool
     !once || are_distinct(s, k, n)
 }
 
-// How many rows a block counts. For a caller that has found the two bytes of the count.
+// How many rows a block counts.
 #[tactic(auto, using(crate::proofs::ByteLaws::two_bytes))]
 pub fn rows(s: &[u8]) -> usize
     requires { 2 ≤ length s.now }
@@ -141,17 +142,26 @@ fn is_named(c: &[u8], name: &[u8]) -> bool
     &c[..name_length(c)] == name
 }
 
-// The first row whose key is the name. For a block with name keys that has its counted length: its callers have checked it.
-#[tactic(auto, using(lists::proofs::Searches::search_start, lists::proofs::Searches::search_found, lists::proofs::Searches::search_more, lists::proofs::Parts::part_lent), unfolding(crate::specs::Blocks::row_of))]
-pub fn find_row(s: &[u8], name: &[u8]) -> Option<usize>
-    requires { (2 ≤ length s.now) × (2 + spec.count s.now * 32 ≤ length s.now) }
-    ensures { result ≡ spec.row_of s.now name.now }
-{
-    for i in 0..rows(s) {
-        let at = 2 + i * 32;
-        if is_named(&s[at..at + 32], name) {
-            return Some(i);
+// The name keys of a block, as many as it counts.
+#[derive(Clone, Copy)]
+pub struct Keys<'a> {
+    pub bytes: &'a [u8],
+    ghost counted: { 2 ≤ length bytes.now },
+    ghost inside: { 2 + spec.count bytes.now * 32 ≤ length bytes.now },
+}
+
+impl Keys<'_> {
+    // The first row whose key is the name.
+    #[tactic(auto, using(lists::proofs::Searches::search_start, lists::proofs::Searches::search_found, lists::proofs::Searches::search_more, lists::proofs::Parts::part_lent), unfolding(crate::specs::Blocks::row_of))]
+    pub fn find(self, name: &[u8]) -> Option<usize>
+        ensures { result ≡ spec.row_of self.entry.bytes.now name.now }
+    {
+        for i in 0..rows(self.bytes) {
+            let at = 2 + i * 32;
+            if is_named(&self.bytes[at..at + 32], name) {
+                return Some(i);
+            }
         }
+        None
     }
-    None
 }

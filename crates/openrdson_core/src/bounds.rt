@@ -41,7 +41,7 @@ impl Bbox {
     pub fn from_points(xs: &[f64], ys: &[f64]) -> Result<Bbox, Refusal>
         ensures { answer result ≡ of_ring xs.now ys.now (spec.bounds_of xs.now ys.now) }
     {
-        let ring = Ring::checked(xs, ys)?;
+        let ring = Ring::checked(xs, ys)?.ring;
         Ok(bounds_of(ring))
     }
 
@@ -75,14 +75,15 @@ impl Bbox {
         self.extend(other)
     }
 
-    // The extent in x; zero for an empty box.
+    // The extent in x; zero for an empty box. One function of an axis would be no shorter than this and `height`.
     pub fn width(self) -> f64
         ensures { result ≡ spec.width self }
     {
         if self.is_empty() {
-            return 0.0;
+            0.0
+        } else {
+            self.max_x - self.min_x
         }
-        self.max_x - self.min_x
     }
 
     // The extent in y; zero for an empty box.
@@ -90,9 +91,10 @@ impl Bbox {
         ensures { result ≡ spec.height self }
     {
         if self.is_empty() {
-            return 0.0;
+            0.0
+        } else {
+            self.max_y - self.min_y
         }
-        self.max_y - self.min_y
     }
 
     // Half way between the bounds, also of an empty box.
@@ -106,7 +108,7 @@ impl Bbox {
     }
 }
 
-// x where it is below the bound, else the bound.
+// x where it is below the bound, else the bound. Not std's min and max: of two zeros they may take the other one.
 fn lesser(x: f64, bound: f64) -> f64
     ensures { result ≡ spec.lesser x bound }
 {

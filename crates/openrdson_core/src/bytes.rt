@@ -2,14 +2,6 @@
 ghost use Rattle.std.specs.Prelude.{◌≡◌, ◌≤◌, length};
 ghost use Rattle.openrdson_core.specs.Bytes as spec;
 
-// Whether a and b hold the same bytes.
-#[tactic(auto, using(crate::proofs::ByteLaws::same_is))]
-pub fn is_same(a: &[u8], b: &[u8]) -> bool
-    ensures { result ≡ spec.same a.now b.now }
-{
-    a == b
-}
-
 // Whether every byte is zero.
 pub fn is_zero(c: &[u8]) -> bool
     ensures { result ≡ spec.zeros c.now }
@@ -34,7 +26,7 @@ pub fn is_name(c: &[u8]) -> bool
     n > 0 && is_zero(&c[n..])
 }
 
-// Whether p stands somewhere in s.
+// Whether p stands somewhere in s. `any` over the places was tried: its proof does not close.
 #[tactic(auto, using(lists::proofs::Scans::any_start, lists::proofs::Scans::any_none, lists::proofs::Parts::rest_lent, crate::proofs::ByteLaws::starts_is), unfolding(crate::specs::Bytes::contains))]
 pub fn contains(s: &[u8], p: &[u8]) -> bool
     ensures { result ≡ spec.contains s.now p.now }

@@ -1,71 +1,95 @@
 // The layout: the logical name of a layer number, and the marker rule.
 ghost use Rattle.std.specs.Prelude.{◌≡◌, true, ◌<◌, option_map, IfSome, IfOk};
-ghost use Rattle.lists.specs.Answer.{map_answer};
+ghost use Rattle.lists.specs.Answer.{map_answer, unless, given};
 ghost use Rattle.openrdson_core.specs.Bytes.{unpad};
-ghost use Rattle.openrdson_core.specs.Blocks.{layer_names_ok, count, value_at};
+ghost use Rattle.openrdson_core.specs.Blocks.{layer_names_ok, count, value_start, value_at};
 ghost use Rattle.openrdson_core.specs.Maps.{spanned, span_within, span_from};
 ghost use Rattle.openrdson_core.specs.Answers.{answer};
 ghost use Rattle.openrdson_core.specs.Layout as spec;
 
 use crate::blocks::{Cell, is_block, rows};
-use crate::bytes::{contains, name_length};
+use crate::bytes::contains;
 use crate::maps::Span;
 use crate::refusals::Refusal;
 
-// Whether s is a layer-name block.
-pub fn is_layer_names(s: &[u8]) -> bool
-    ensures { result ≡ layer_names_ok s.now }
-{
-    is_block(s, Cell::Number, Cell::Name, true)
+// A block of layer names.
+#[derive(Clone, Copy)]
+pub struct LayerNames<'a> {
+    pub bytes: &'a [u8],
+    ghost sound: { layer_names_ok bytes.now ≡ true },
 }
 
-// The first row whose key has these bytes. For a block that has been checked.
-#[tactic(auto, using(lists::proofs::Searches::search_start, lists::proofs::Searches::search_more, crate::proofs::BlockLaws::block_counts, crate::proofs::ByteLaws::two_bytes_at), unfolding(crate::specs::Layout::row_of_pattern))]
-fn find_pattern(s: &[u8], bits: u16) -> Option<usize>
-    requires { layer_names_ok s.now ≡ true }
-    ensures { result ≡ spec.row_of_pattern s.now bits }
-{
-    for i in 0..rows(s) {
-        let at = 2 + i * 2;
-        if u16::from_le_bytes([s[at], s[at + 1]]) == bits {
-            return Some(i);
+impl<'a> LayerNames<'a> {
+    // The block, if nothing is against it; 14.
+    pub fn checked(bytes: &'a [u8]) -> Result<Self, Refusal>
+        ensures fault { map_answer (λ _. tt {0}) (answer result) ≡ unless (layer_names_ok bytes.now) 14 (given tt) }
+        ensures bytes { IfOk result (λ b. b.bytes.now ≡ bytes.now) }
+    {
+        if !is_block(bytes, Cell::Number, Cell::Name, true) {
+            return Err(Refusal::BlockDamaged);
         }
+        Ok(LayerNames { bytes })
     }
-    None
-}
 
-// The first row whose number is a layer's. It is `pub` for the crate above, which has checked the block.
-#[tactic(auto, using(crate::proofs::LayoutLaws::pattern_is))]
-pub fn find_layer(s: &[u8], layer: i16) -> Option<usize>
-    requires { layer_names_ok s.now ≡ true }
-    ensures { result ≡ spec.row_of_pattern s.now (spec.pattern_of layer) }
-{
-    find_pattern(s, layer.cast_unsigned())
-}
+    // How many layers have a name.
+    #[tactic(auto, using(crate::proofs::BlockLaws::block_counts))]
+    pub fn rows(self) -> usize
+        ensures { result ≡ count self.entry.bytes.now }
+    {
+        rows(self.bytes)
+    }
 
-// The logical name of row i, without its padding. It is `pub` for the crate above, which has checked the block and found row i in it.
-#[tactic(auto, using(crate::proofs::BlockLaws::block_counts))]
-pub fn layer_name_at(s: &[u8], i: usize) -> &[u8]
-    requires { (layer_names_ok s.now ≡ true) × (i < count s.now) }
-    ensures { result.now ≡ unpad (value_at Cell.Number Cell.Name s.now i) }
-{
-    let start = 2 + rows(s) * 2 + i * 32;
-    let cell = &s[start..start + 32];
-    &cell[..name_length(cell)]
-}
+    // The first row whose number is a layer's.
+    #[tactic(auto, using(crate::proofs::LayoutLaws::pattern_is))]
+    pub fn find(self, layer: i16) -> Option<usize>
+        ensures { result ≡ spec.row_of_pattern self.entry.bytes.now (spec.pattern_of layer) }
+    {
+        self.find_pattern(layer.cast_unsigned())
+    }
 
-// The part of the block that is a layer's logical name. For a caller that has checked the block.
-#[tactic(auto, using(crate::proofs::BlockLaws::block_counts, crate::proofs::LayoutLaws::layer_found))]
-pub fn find_layer_name(s: &[u8], layer: i16) -> Option<Span>
-    requires { layer_names_ok s.now ≡ true }
-    ensures value { option_map (spanned s.now) result ≡ spec.name_of_layer s.now layer }
-    ensures within { IfSome result (span_within s.now) }
-    ensures start { IfSome result (span_from (spec.start_of_name s.now layer)) }
-{
-    let i = find_layer(s, layer)?;
-    let start = 2 + rows(s) * 2 + i * 32;
-    let count = name_length(&s[start..start + 32]);
-    Some(Span { start, count })
+    // The first row whose key has these bytes.
+    #[tactic(auto, using(lists::proofs::Searches::search_start, lists::proofs::Searches::search_more, crate::proofs::BlockLaws::block_counts, crate::proofs::ByteLaws::two_bytes_at, lists::proofs::Searches::search_found, lists::proofs::Searches::search_end), unfolding(crate::specs::Layout::row_of_pattern))]
+    fn find_pattern(self, bits: u16) -> Option<usize>
+        ensures { result ≡ spec.row_of_pattern self.entry.bytes.now bits }
+    {
+        for i in 0..self.rows() {
+            let at = 2 + i * 2;
+            if u16::from_le_bytes([self.bytes[at], self.bytes[at + 1]]) == bits {
+                return Some(i);
+            }
+        }
+        None
+    }
+
+    // Where the logical name of row i stands.
+    #[tactic(auto, using(crate::proofs::BlockLaws::block_counts))]
+    fn span_at(self, i: usize) -> Span
+        requires { i < count self.bytes.now }
+        ensures value { spanned self.entry.bytes.now result ≡ unpad (value_at Cell.Number Cell.Name self.entry.bytes.now i) }
+        ensures within { span_within self.entry.bytes.now result }
+        ensures start { result.start ≡ value_start Cell.Number Cell.Name self.entry.bytes.now i }
+    {
+        Span::name_at(self.bytes, 2 + self.rows() * 2 + i * 32)
+    }
+
+    // The logical name of row i, without its padding.
+    pub fn name_at(self, i: usize) -> &'a [u8]
+        requires { i < count self.bytes.now }
+        ensures { result.now ≡ unpad (value_at Cell.Number Cell.Name self.entry.bytes.now i) }
+    {
+        self.span_at(i).of(self.bytes)
+    }
+
+    // The part of the block that is a layer's logical name.
+    #[tactic(auto, using(crate::proofs::LayoutLaws::layer_found))]
+    fn find_name(self, layer: i16) -> Option<Span>
+        ensures value { option_map (spanned self.entry.bytes.now) result ≡ spec.name_of_layer self.entry.bytes.now layer }
+        ensures within { IfSome result (span_within self.entry.bytes.now) }
+        ensures start { IfSome result (span_from (spec.start_of_name self.entry.bytes.now layer)) }
+    {
+        let i = self.find(layer)?;
+        Some(self.span_at(i))
+    }
 }
 
 // Where a layer's logical name stands; 14.
@@ -75,10 +99,8 @@ pub fn layer_name(s: &[u8], layer: i16) -> Result<Option<Span>, Refusal>
     ensures within { IfOk result (λ p. IfSome p (span_within s.now)) }
     ensures start { IfOk result (λ p. IfSome p (span_from (spec.start_of_name s.now layer))) }
 {
-    if !is_layer_names(s) {
-        return Err(Refusal::BlockDamaged);
-    }
-    Ok(find_layer_name(s, layer))
+    let names = LayerNames::checked(s)?;
+    Ok(names.find_name(layer))
 }
 
 // Whether a logical name is a marker's: such layers have no geometry.

@@ -1,11 +1,13 @@
 // Layer maps: the physical name of a logical one.
-ghost use Rattle.std.specs.Prelude.{◌≡◌, true, option_map, is_some, IfSome, IfOk};
-ghost use Rattle.lists.specs.Answer.{map_answer};
+ghost use Rattle.std.specs.Prelude.{◌≡◌, ◌+◌, ◌≤◌, true, length, option_map, is_some, IfSome, IfOk};
+ghost use Rattle.lists.specs.Answer.{map_answer, unless, given};
+ghost use Rattle.lists.specs.Lists.{part};
+ghost use Rattle.openrdson_core.specs.Bytes.{unpad};
 ghost use Rattle.openrdson_core.specs.Blocks.{map_ok};
 ghost use Rattle.openrdson_core.specs.Answers.{answer};
 ghost use Rattle.openrdson_core.specs.Maps as spec;
 
-use crate::blocks::{Cell, find_row, is_block, rows};
+use crate::blocks::{Cell, Keys, is_block, rows};
 use crate::bytes::name_length;
 use crate::refusals::Refusal;
 
@@ -16,6 +18,28 @@ pub struct Span {
     pub count: usize,
 }
 
+impl Span {
+    // The name in the 32 bytes from place `at` on, without its padding.
+    #[tactic(auto, using(lists::proofs::Parts::part_lent))]
+    pub(crate) fn name_at(s: &[u8], at: usize) -> Span
+        requires { at + 32 ≤ length s.now }
+        ensures value { spec.spanned s.now result ≡ unpad (part at 32 s.now) }
+        ensures within { spec.span_within s.now result }
+        ensures start { result.start ≡ at }
+    {
+        let count = name_length(&s[at..at + 32]);
+        Span { start: at, count }
+    }
+
+    // That part of the block.
+    pub fn of(self, s: &[u8]) -> &[u8]
+        requires { spec.span_within s.now self }
+        ensures { result.now ≡ spec.spanned s.now self }
+    {
+        &s[self.start..self.start + self.count]
+    }
+}
+
 // Where a physical name stands: in the conducting map or in the via map.
 #[derive(Clone, Copy, Debug, PartialEq, Eq)]
 pub enum NamePlace {
@@ -23,42 +47,51 @@ pub enum NamePlace {
     Via(Span),
 }
 
-// Whether s is a layer map.
-pub fn is_map(s: &[u8]) -> bool
-    ensures { result ≡ map_ok s.now }
-{
-    is_block(s, Cell::Name, Cell::Name, true)
+// A map from logical names to physical ones.
+#[derive(Clone, Copy)]
+pub struct LayerMap<'a> {
+    pub bytes: &'a [u8],
+    ghost sound: { map_ok bytes.now ≡ true },
 }
 
-// The part of a map that is the physical name of a logical one. For a caller that has checked the map.
-#[tactic(auto, using(crate::proofs::BlockLaws::block_counts, crate::proofs::BlockLaws::row_found))]
-pub fn find_in_map(s: &[u8], name: &[u8]) -> Option<Span>
-    requires { map_ok s.now ≡ true }
-    ensures value { option_map (spec.spanned s.now) result ≡ spec.in_map s.now name.now }
-    ensures within { IfSome result (spec.span_within s.now) }
-    ensures start { IfSome result (spec.span_from (spec.start_in_map s.now name.now)) }
-{
-    let i = find_row(s, name)?;
-    let start = 2 + rows(s) * 32 + i * 32;
-    let count = name_length(&s[start..start + 32]);
-    Some(Span { start, count })
+impl<'a> LayerMap<'a> {
+    // The map, if nothing is against its block; 14.
+    pub fn checked(bytes: &'a [u8]) -> Result<Self, Refusal>
+        ensures fault { map_answer (λ _. tt {0}) (answer result) ≡ unless (map_ok bytes.now) 14 (given tt) }
+        ensures bytes { IfOk result (λ b. b.bytes.now ≡ bytes.now) }
+    {
+        if !is_block(bytes, Cell::Name, Cell::Name, true) {
+            return Err(Refusal::BlockDamaged);
+        }
+        Ok(LayerMap { bytes })
+    }
+
+    // The part of the block that is the physical name of a logical one.
+    #[tactic(auto, using(crate::proofs::BlockLaws::block_counts, crate::proofs::BlockLaws::row_found))]
+    pub fn find(self, name: &[u8]) -> Option<Span>
+        ensures value { option_map (spec.spanned self.entry.bytes.now) result ≡ spec.in_map self.entry.bytes.now name.now }
+        ensures within { IfSome result (spec.span_within self.entry.bytes.now) }
+        ensures start { IfSome result (spec.span_from (spec.start_in_map self.entry.bytes.now name.now)) }
+    {
+        let keys = Keys { bytes: self.bytes };
+        let i = keys.find(name)?;
+        Some(Span::name_at(self.bytes, 2 + rows(self.bytes) * 32 + i * 32))
+    }
 }
 
-// Where the physical name of a logical one stands.
+// Where the physical name of a logical one stands. The calls take the two maps by themselves, as document 01 has them.
 #[tactic(auto, unfolding(crate::specs::Maps::lookup))]
 pub fn name_place(conducting: &[u8], via: &[u8], name: &[u8]) -> Result<Option<NamePlace>, Refusal>
     ensures value { map_answer (option_map (spec.placed conducting.now via.now)) (answer result) ≡ spec.lookup conducting.now via.now name.now }
     ensures within { IfOk result (λ p. IfSome p (spec.place_within conducting.now via.now)) }
     ensures start { IfOk result (λ p. IfSome p (spec.place_from conducting.now via.now name.now)) }
 {
-    if !is_map(conducting) || !is_map(via) {
-        return Err(Refusal::BlockDamaged);
-    }
-    let first = find_in_map(conducting, name);
-    if let Some(span) = first {
+    let conducting = LayerMap::checked(conducting)?;
+    let via = LayerMap::checked(via)?;
+    if let Some(span) = conducting.find(name) {
         return Ok(Some(NamePlace::Conducting(span)));
     }
-    Ok(find_in_map(via, name).map(NamePlace::Via))
+    Ok(via.find(name).map(NamePlace::Via))
 }
 
 // Whether a map has a physical name for a logical one, or 14.
@@ -73,8 +106,8 @@ pub fn physical_name<'a>(conducting: &'a [u8], via: &'a [u8], name: &[u8]) -> &'
     ensures { result.now ≡ spec.part_of (spec.lookup conducting.now via.now name.now) }
 {
     match name_place(conducting, via, name) {
-        Ok(Some(NamePlace::Conducting(p))) => &conducting[p.start..p.start + p.count],
-        Ok(Some(NamePlace::Via(p))) => &via[p.start..p.start + p.count],
+        Ok(Some(NamePlace::Conducting(p))) => p.of(conducting),
+        Ok(Some(NamePlace::Via(p))) => p.of(via),
         _ => &[],
     }
 }

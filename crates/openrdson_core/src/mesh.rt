@@ -1,6 +1,5 @@
 // Meshes: kinds of elements, nodes, counts, and when the lists of a mesh are as they must be.
-ghost use Rattle.std.specs.Prelude.{◌≡◌, ◌+◌, ◌*◌, ◌<◌, ◌≤◌, length, get_or};
-ghost use Rattle.lists.specs.Lists.{part};
+ghost use Rattle.std.specs.Prelude.{◌≡◌, ◌+◌, ◌*◌, ◌<◌, ◌≤◌, length, option_map, IfSome};
 ghost use Rattle.openrdson_core.specs.Mesh as spec;
 
 #[derive(Clone, Copy, Debug, PartialEq, Eq)]
@@ -93,6 +92,7 @@ impl Point3 {
 }
 
 // Whether a mesh's lists, by their lengths, are parallel, with eight node places a kind.
+#[tactic(auto, using(crate::proofs::MeshLaws::eight_each, crate::proofs::MeshLaws::not_eight), unfolding(crate::specs::Mesh::parallel_lengths))]
 pub fn lists_parallel(
     xs: usize,
     ys: usize,
@@ -103,127 +103,143 @@ pub fn lists_parallel(
 ) -> bool
     ensures { result ≡ spec.parallel_lengths xs ys zs kinds places regions }
 {
-    if xs != ys {
-        return false;
+    xs == ys && xs == zs && kinds == regions && places % 8 == 0 && places / 8 == kinds
+}
+
+// The six lists of a mesh: three of node coordinates, three of elements.
+#[derive(Clone, Copy)]
+pub struct Mesh<'a> {
+    pub xs: &'a [f64],
+    pub ys: &'a [f64],
+    pub zs: &'a [f64],
+    pub kinds: &'a [u8],
+    pub places: &'a [u32],
+    pub regions: &'a [u32],
+}
+
+impl<'a> Mesh<'a> {
+    // Element e.
+    #[tactic(auto, using(lists::proofs::Parts::part_lent, lists::proofs::Parts::part_length))]
+    pub fn element(self, e: usize) -> Element<'a>
+        requires kind { e < length self.kinds.now }
+        requires places { 8 * e + 8 ≤ length self.places.now }
+        ensures kind { result.kind ≡ spec.kind_at (spec.read self.entry) e }
+        ensures places { result.places.now ≡ spec.places_of (spec.read self.entry) e }
+    {
+        let first = 8 * e;
+        Element {
+            kind: self.kinds[e],
+            places: &self.places[first..first + 8],
+        }
     }
-    if xs != zs {
-        return false;
+
+    // Whether the lists are parallel (16).
+    pub fn is_parallel(self) -> bool
+        ensures { result ≡ spec.parallel (spec.read self.entry) }
+    {
+        lists_parallel(
+            self.xs.len(),
+            self.ys.len(),
+            self.zs.len(),
+            self.kinds.len(),
+            self.places.len(),
+            self.regions.len(),
+        )
     }
-    if kinds != regions {
-        return false;
+}
+
+// The six lists that a mesh is written into.
+#[derive(Drop)]
+pub struct MeshLists<'a> {
+    pub xs: &'a mut [f64],
+    pub ys: &'a mut [f64],
+    pub zs: &'a mut [f64],
+    pub kinds: &'a mut [u8],
+    pub places: &'a mut [u32],
+    pub regions: &'a mut [u32],
+}
+
+impl MeshLists<'_> {
+    // Whether the lists are parallel (16).
+    pub fn is_parallel(&self) -> bool
+        ensures { result ≡ spec.parallel (spec.held self.now) }
+    {
+        lists_parallel(
+            self.xs.len(),
+            self.ys.len(),
+            self.zs.len(),
+            self.kinds.len(),
+            self.places.len(),
+            self.regions.len(),
+        )
     }
-    if places % 8 != 0 {
-        return false;
+
+    // Whether the counts are within the lists (15).
+    pub fn holds(&self, counts: Counts) -> bool
+        ensures { result ≡ spec.within counts (spec.held self.now) }
+    {
+        counts_within(counts, self.xs.len(), self.kinds.len())
     }
-    places / 8 == kinds
 }
 
 // Whether the counts are within lists of so many nodes and kinds.
+#[tactic(auto, unfolding(crate::specs::Mesh::within_lengths))]
 pub fn counts_within(counts: Counts, nodes: usize, kinds: usize) -> bool
     ensures { result ≡ spec.within_lengths counts nodes kinds }
 {
-    if counts.nodes > nodes {
-        return false;
-    }
-    counts.elements <= kinds
+    counts.nodes <= nodes && counts.elements <= kinds
 }
 
 // Whether n more entries after the first `at` fit in a list of len entries and in the largest mesh.
+#[tactic(auto, unfolding(crate::specs::Mesh::fits))]
 pub fn has_room(n: usize, at: usize, len: usize) -> bool
     ensures { result ≡ spec.fits n at len }
 {
-    if n > 1048576 {
-        return false;
-    }
-    if 1048576 - n < at {
-        return false;
-    }
-    at + n <= len
+    n <= 1048576 && at <= 1048576 - n && at + n <= len
 }
 
-// Whether an element's places from n on are all unused.
-#[tactic(auto, using(crate::proofs::MeshLaws::rest_start, crate::proofs::MeshLaws::rest_more, crate::proofs::MeshLaws::rest_filled), unfolding(crate::specs::Mesh::rest_unused))]
-fn rest_unused(places: &[u32], n: usize) -> bool
-    requires eight { length places.now ≡ 8 }
-    requires within { n ≤ 8 }
-    ensures { result ≡ spec.rest_unused n places.now }
+// How many of its places an element of a kind uses; none where there is no such kind.
+pub fn used_places(kind: u8) -> Option<usize>
+    ensures used { result ≡ option_map spec.node_count (spec.kind_of kind) }
+    ensures within { IfSome result (λ n. n ≤ 8) }
 {
-    for i in n..8 {
-        if places[i] != UNUSED {
-            return false;
+    let kind = ElementType::try_from(kind).ok()?;
+    Some(kind.node_count())
+}
+
+// An element of a mesh: the number of its kind, and its eight node places.
+#[derive(Clone, Copy)]
+pub struct Element<'a> {
+    pub kind: u8,
+    pub places: &'a [u32],
+    ghost eight: { length places.now ≡ 8 },
+}
+
+impl Element<'_> {
+    // Whether its kind is one of the four, and the places past that kind's node count are unused (15).
+    pub fn is_sound(self) -> bool
+        ensures { result ≡ spec.sound_element self.entry.kind self.entry.places.now }
+    {
+        match used_places(self.kind) {
+            Some(n) => self.places[n..].iter().all(|place| *place == UNUSED),
+            None => false,
         }
     }
-    true
-}
 
-// Whether an element's first n places are below the number of nodes.
-#[tactic(auto, using(lists::proofs::Scans::all_start, lists::proofs::Scans::all_more, lists::proofs::Scans::all_fails), unfolding(crate::specs::Mesh::first_below))]
-fn first_below(places: &[u32], n: usize, nodes: usize) -> bool
-    requires eight { length places.now ≡ 8 }
-    requires within { n ≤ 8 }
-    ensures { result ≡ spec.first_below n nodes places.now }
-{
-    for i in 0..n {
-        if places[i] as usize >= nodes {
-            return false;
-        }
+    // Whether the places that it uses are below the number of nodes (13).
+    pub fn is_inside(self, nodes: usize) -> bool
+        ensures { result ≡ spec.inside_element nodes self.entry.kind self.entry.places.now }
+    {
+        let n = used_places(self.kind).unwrap_or(0);
+        self.places[..n]
+            .iter()
+            .all(|place| (*place as usize) < nodes)
     }
-    true
-}
 
-// How many of its places an element of a kind uses, and 0 where there is no such kind.
-pub fn used_places(kind: u8) -> usize
-    ensures used { result ≡ spec.used_places (spec.kind_of kind) }
-    ensures within { result ≤ 8 }
-{
-    match ElementType::try_from(kind) {
-        Ok(kind) => kind.node_count(),
-        Err(_) => 0,
+    // Whether it is valid in a mesh of so many nodes.
+    pub fn is_ok(self, nodes: usize) -> bool
+        ensures { result ≡ spec.valid_element nodes self.entry.kind self.entry.places.now }
+    {
+        self.is_sound() && self.is_inside(nodes)
     }
-}
-
-// The eight places of element e.
-fn places_of(places: &[u32], e: usize) -> &[u32]
-    requires { 8 * e + 8 ≤ length places.now }
-    ensures { result.now ≡ part (8 * e) 8 places.now }
-{
-    let first = 8 * e;
-    &places[first..first + 8]
-}
-
-// Whether element e has one of the four kinds, and the places past that kind's node count are unused (15). It is `pub` for the crate above, which has found the element within the lists.
-#[tactic(auto, using(lists::proofs::Parts::part_length, crate::proofs::MeshLaws::sound_none, crate::proofs::MeshLaws::sound_is))]
-pub fn element_sound(kinds: &[u8], places: &[u32], e: usize) -> bool
-    requires inside { e < length kinds.now }
-    requires places { 8 * e + 8 ≤ length places.now }
-    ensures { result ≡ spec.sound_element (get_or kinds.now e 0) (part (8 * e) 8 places.now) }
-{
-    let n = used_places(kinds[e]);
-    if n == 0 {
-        return false;
-    }
-    rest_unused(places_of(places, e), n)
-}
-
-// Whether the places that element e uses are below the number of nodes (13). It is `pub` for the crate above, as `element_sound` is.
-#[tactic(auto, using(lists::proofs::Parts::part_length))]
-pub fn element_inside(kinds: &[u8], places: &[u32], e: usize, nodes: usize) -> bool
-    requires inside { e < length kinds.now }
-    requires places { 8 * e + 8 ≤ length places.now }
-    ensures { result ≡ spec.inside_element nodes (get_or kinds.now e 0) (part (8 * e) 8 places.now) }
-{
-    let n = used_places(kinds[e]);
-    first_below(places_of(places, e), n, nodes)
-}
-
-// Whether element e is valid in a mesh of so many nodes. It is `pub` for the crate above, as `element_sound` is.
-pub fn element_ok(kinds: &[u8], places: &[u32], e: usize, nodes: usize) -> bool
-    requires inside { e < length kinds.now }
-    requires places { 8 * e + 8 ≤ length places.now }
-    ensures { result ≡ spec.valid_element nodes (get_or kinds.now e 0) (part (8 * e) 8 places.now) }
-{
-    if !element_sound(kinds, places, e) {
-        return false;
-    }
-    element_inside(kinds, places, e, nodes)
 }

@@ -1,6 +1,7 @@
-// Points, and what a call on a ring of points answers.
-ghost use Rattle.std.specs.Prelude.{◌≡◌};
-ghost use Rattle.openrdson_core.specs.Points.{the_point, point_in, ring_size, ring_fault};
+// Points, lists of them, and what is against a ring.
+ghost use Rattle.std.specs.Prelude.{◌≡◌, length, IfOk, option_map};
+ghost use Rattle.lists.specs.Answer.{map_answer};
+ghost use Rattle.openrdson_core.specs.Points.{the_point, point_in, even_points, points_part, ring_size, ring_fault};
 ghost use Rattle.openrdson_core.specs.Answers.{answer};
 
 use crate::refusals::Refusal;
@@ -26,6 +27,42 @@ impl Point {
         ensures { result ≡ point_in self }
     {
         binary64::coordinate_in_range(self.x) & binary64::coordinate_in_range(self.y)
+    }
+}
+
+// Two lists of coordinates, equally long.
+#[derive(Clone, Copy)]
+pub struct Points<'a> {
+    pub xs: &'a [f64],
+    pub ys: &'a [f64],
+    ghost even: { length xs.now ≡ length ys.now },
+}
+
+impl<'a> Points<'a> {
+    // The points of two lists; 16.
+    pub fn new(xs: &'a [f64], ys: &'a [f64]) -> Result<Self, Refusal>
+        ensures size { map_answer (λ _. tt {0}) (answer result) ≡ even_points (length xs.now) (length ys.now) }
+        ensures lists { IfOk result (λ p. (p.xs.now ≡ xs.now) × (p.ys.now ≡ ys.now)) }
+    {
+        if xs.len() != ys.len() {
+            return Err(Refusal::UnequalLists);
+        }
+        Ok(Points { xs, ys })
+    }
+
+    // `count` of them from place `start` on; none where they end past the lists.
+    #[tactic(auto, unfolding(crate::specs::Points::points_part))]
+    pub fn part(self, start: u32, count: u32) -> Option<Points<'a>>
+        ensures { option_map (λ p. (p.xs.now, p.ys.now)) result ≡ points_part self.entry.xs.now self.entry.ys.now start count }
+    {
+        let first = start as usize;
+        let end = first + count as usize;
+        if end > self.xs.len() {
+            return None;
+        }
+        let xs = &self.xs[first..end];
+        let ys = &self.ys[first..end];
+        Some(Points { xs, ys })
     }
 }
 

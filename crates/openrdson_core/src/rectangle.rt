@@ -27,16 +27,11 @@ pub fn is_axis_aligned_rectangle(xs: &[f64], ys: &[f64]) -> Result<bool, Refusal
 
 // Whether three points show, without the bounds, that a ring in range is no rectangle. A smaller limit makes for a smaller tolerance:
 // after the limit of a coordinate comes a metre, within which a layout lies.
+#[tactic(auto, using(crate::proofs::Apart::shown, binary64::proofs::Differences::one_limit, binary64::proofs::Differences::coordinate_limit))]
 fn is_plainly_none(ring: Ring) -> bool
     ensures { result ≡ true → (points_in ring.entry.xs.now ring.entry.ys.now ≡ true) × (is_rectangle ring.entry.xs.now ring.entry.ys.now ≡ false) }
 {
-    if ring.xs.len() < 4 {
-        return false;
-    }
-    if is_off_corners(ring, 1048576.0) {
-        return true;
-    }
-    is_off_corners(ring, 1.0)
+    ring.xs.len() >= 4 && (is_off_corners(ring, 1048576.0) || is_off_corners(ring, 1.0))
 }
 
 // Whether the points are within the limit, and three of them have three x, or three y, that are farther from each other than the
@@ -47,12 +42,9 @@ fn is_off_corners(ring: Ring, limit: f64) -> bool
     ensures { result ≡ (three_apart (tolerance_within limit) ring.entry.xs.now ring.entry.ys.now && points_within limit ring.entry.xs.now ring.entry.ys.now) }
 {
     let most = 1e-9 * (limit + limit);
-    if are_apart(ring.xs[0], ring.xs[2], ring.xs[3], most)
-        | are_apart(ring.ys[0], ring.ys[2], ring.ys[3], most)
-    {
-        return ring.is_within(limit);
-    }
-    false
+    let xs_apart = are_apart(ring.xs[0], ring.xs[2], ring.xs[3], most);
+    let ys_apart = are_apart(ring.ys[0], ring.ys[2], ring.ys[3], most);
+    (xs_apart | ys_apart) && ring.is_within(limit)
 }
 
 // Whether no two of the three are within t of each other.
@@ -63,36 +55,31 @@ fn are_apart(a: f64, b: f64, c: f64, t: f64) -> bool
 }
 
 // The same of points in range, with these bounds. The tolerance is 1e-9 of the larger side.
+#[tactic(auto, unfolding(crate::specs::Rectangle::fills_bounds))]
 fn fills_bounds(ring: Ring, bounds: Bbox) -> bool
     ensures { result ≡ fills_bounds ring.entry.xs.now ring.entry.ys.now bounds }
 {
     let width = bounds.width();
     let height = bounds.height();
-    if width <= 0.0 {
-        return false;
-    }
-    if height <= 0.0 {
+    if width <= 0.0 || height <= 0.0 {
         return false;
     }
     fills_corners(ring, bounds, 1e-9 * binary64::larger(width, height))
 }
 
-// The same with a tolerance. Most rings that are no rectangle show it at their first point.
+// The same with a tolerance; a struct of the bounds and the tolerance would be made for this one call. Most rings that are no rectangle show it at their first point.
+#[tactic(auto, unfolding(crate::specs::Rectangle::fills_corners))]
 fn fills_corners(ring: Ring, bounds: Bbox, eps: f64) -> bool
     ensures { result ≡ fills_corners ring.entry.xs.now ring.entry.ys.now bounds eps }
 {
-    if ring.xs.len() > 0 {
-        if !on_some_corner(ring.point(0), bounds, eps) {
-            return false;
-        }
-    }
-    if !all_on_corners(ring, bounds, eps) {
+    if ring.xs.len() > 0 && !on_some_corner(ring.point(0), bounds, eps) {
         return false;
     }
-    all_corners_taken(ring, bounds, eps)
+    all_on_corners(ring, bounds, eps) && all_corners_taken(ring, bounds, eps)
 }
 
 // Whether p is on a corner of the bounds: at one of their sides in x and in y.
+#[tactic(auto, using(crate::proofs::Corners::four_corners), unfolding(crate::specs::Rectangle::on_some_corner, crate::specs::Rectangle::on_corner))]
 fn on_some_corner(p: Point, bounds: Bbox, eps: f64) -> bool
     ensures { result ≡ on_some_corner bounds eps p }
 {
@@ -128,7 +115,7 @@ fn all_corners_taken(ring: Ring, bounds: Bbox, eps: f64) -> bool
         & is_taken(ring, high_left, eps)
 }
 
-// Whether a point is on the corner.
+// Whether a point is on the corner. `any` over the places was tried: its proof does not close.
 #[tactic(auto, using(lists::proofs::Scans::any_start, lists::proofs::Scans::any_none, lists::proofs::Scans::any_holds))]
 fn is_taken(ring: Ring, corner: Point, eps: f64) -> bool
     ensures { result ≡ is_taken ring.entry.xs.now ring.entry.ys.now corner eps }
@@ -141,6 +128,7 @@ fn is_taken(ring: Ring, corner: Point, eps: f64) -> bool
     false
 }
 
+#[tactic(auto, unfolding(crate::specs::Rectangle::on_corner))]
 fn on_corner(p: Point, corner: Point, eps: f64) -> bool
     ensures { result ≡ on_corner corner eps p }
 {

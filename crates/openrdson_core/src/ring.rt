@@ -1,5 +1,5 @@
-// Rings: points in two equally long lists.
-ghost use Rattle.std.specs.Prelude.{◌≡◌, ◌≤◌, ◌<◌, length, IfOk};
+// Rings: points in two equally long lists. The public calls take the two lists, as document 01 has them, and make a ring of them first.
+ghost use Rattle.std.specs.Prelude.{◌≡◌, ◌≤◌, ◌<◌, true, length, IfOk};
 ghost use Rattle.lists.specs.Answer.{map_answer};
 ghost use Rattle.openrdson_core.specs.Points.{point_at, points_in, ring_size, ring_fault};
 ghost use Rattle.openrdson_core.specs.Apart.{points_within};
@@ -17,6 +17,13 @@ pub struct Ring<'a> {
     ghost short: { length xs.now ≤ 512 },
 }
 
+// A ring whose points are in range.
+#[derive(Clone, Copy)]
+pub struct SoundRing<'a> {
+    pub ring: Ring<'a>,
+    ghost in_range: { points_in ring.xs.now ring.ys.now ≡ true },
+}
+
 impl<'a> Ring<'a> {
     // The ring of two lists; 16, 2.
     pub fn new(xs: &'a [f64], ys: &'a [f64]) -> Result<Self, Refusal>
@@ -29,15 +36,15 @@ impl<'a> Ring<'a> {
 
     // The ring of two lists, its points in range; 16, 2, 1.
     #[tactic(auto, unfolding(crate::specs::Points::ring_fault))]
-    pub fn checked(xs: &'a [f64], ys: &'a [f64]) -> Result<Self, Refusal>
+    pub fn checked(xs: &'a [f64], ys: &'a [f64]) -> Result<SoundRing<'a>, Refusal>
         ensures fault { map_answer (λ _. tt {0}) (answer result) ≡ ring_fault xs.now ys.now }
-        ensures lists { IfOk result (λ r. (r.xs.now ≡ xs.now) × (r.ys.now ≡ ys.now)) }
+        ensures lists { IfOk result (λ r. (r.ring.xs.now ≡ xs.now) × (r.ring.ys.now ≡ ys.now)) }
     {
         let ring = Ring::new(xs, ys)?;
         if !ring.is_in_range() {
             return Err(Refusal::NumberOutOfRange);
         }
-        Ok(ring)
+        Ok(SoundRing { ring })
     }
 
     // The point at place i.

@@ -1,12 +1,12 @@
 // Solids, and the regions that carry them.
-ghost use Rattle.std.specs.Prelude.{◌≡◌};
+ghost use Rattle.std.specs.Prelude.{◌≡◌, length};
 ghost use Rattle.lists.specs.Answer.{map_answer};
 ghost use Rattle.openrdson_core.specs.Solids as spec;
 ghost use Rattle.openrdson_core.specs.Answers.{answer};
 
 use crate::area::polygon_area;
 use crate::bounds::Bbox;
-use crate::points::Point;
+use crate::points::{Point, Points};
 use crate::refusals::Refusal;
 
 // A material's number, from 1; 0 is unassigned.
@@ -16,6 +16,32 @@ pub struct Material(pub u32);
 // A polygon's number, from 0; 4,294,967,295 is none.
 #[derive(Clone, Copy, Debug, PartialEq, Eq)]
 pub struct PolygonNumber(pub u32);
+
+// Two heights.
+#[derive(Clone, Copy, Debug, PartialEq)]
+pub struct Heights {
+    pub bottom: f64,
+    pub top: f64,
+}
+
+impl Heights {
+    // Both are in range.
+    pub fn is_in_range(self) -> bool
+        ensures { result ≡ spec.heights_in self.bottom self.top }
+    {
+        binary64::coordinate_in_range(self.bottom) & binary64::coordinate_in_range(self.top)
+    }
+
+    // 1, unless both are in range.
+    fn check(self) -> Result<(), Refusal>
+        ensures { answer result ≡ spec.heights_fault self.bottom self.top }
+    {
+        if !self.is_in_range() {
+            return Err(Refusal::NumberOutOfRange);
+        }
+        Ok(())
+    }
+}
 
 // A box with its six bounds, or a prism with two heights and a part of the point lists.
 #[derive(Clone, Copy, Debug, PartialEq)]
@@ -46,22 +72,39 @@ pub struct SolidRegion {
 }
 
 impl Solid {
+    // The two heights.
+    pub fn heights(self) -> Heights
+        ensures { result ≡ spec.heights_of self }
+    {
+        match self {
+            Solid::Box {
+                z_bottom,
+                z_top,
+                ..
+            }
+            | Solid::Prism {
+                z_bottom,
+                z_top,
+                ..
+            } => Heights {
+                bottom: z_bottom,
+                top: z_top,
+            },
+        }
+    }
+
     // The lower height.
     pub fn z_bottom(self) -> f64
         ensures { result ≡ spec.z_bottom_of self }
     {
-        match self {
-            Solid::Box { z_bottom, .. } | Solid::Prism { z_bottom, .. } => z_bottom,
-        }
+        self.heights().bottom
     }
 
     // The upper height.
     pub fn z_top(self) -> f64
         ensures { result ≡ spec.z_top_of self }
     {
-        match self {
-            Solid::Box { z_top, .. } | Solid::Prism { z_top, .. } => z_top,
-        }
+        self.heights().top
     }
 
     // The bounds of the footprint. A prism's points are a part of the lists xs and ys.
@@ -69,14 +112,14 @@ impl Solid {
     pub fn footprint_bbox(self, xs: &[f64], ys: &[f64]) -> Result<Bbox, Refusal>
         ensures { answer result ≡ spec.of_solid xs.now ys.now self (spec.footprint xs.now ys.now self) }
     {
+        let heights = self.heights();
         match self {
             Solid::Box {
                 min_x,
                 min_y,
                 max_x,
                 max_y,
-                z_bottom,
-                z_top,
+                ..
             } => {
                 let sides = Bbox {
                     min_x,
@@ -84,18 +127,13 @@ impl Solid {
                     max_x,
                     max_y,
                 };
-                box_check(sides, z_bottom, z_top, xs.len(), ys.len())?;
+                box_check(sides, heights, xs, ys)?;
                 Ok(sides)
             }
-            Solid::Prism {
-                z_bottom,
-                z_top,
-                start,
-                count,
-            } => {
-                let (part_x, part_y) = part_of(start, count, xs, ys)?;
-                let bounds = Bbox::from_points(part_x, part_y)?;
-                heights_check(z_bottom, z_top)?;
+            Solid::Prism { start, count, .. } => {
+                let part = part_of(start, count, xs, ys)?;
+                let bounds = Bbox::from_points(part.xs, part.ys)?;
+                heights.check()?;
                 Ok(bounds)
             }
         }
@@ -106,14 +144,15 @@ impl Solid {
     pub fn volume(self, xs: &[f64], ys: &[f64]) -> Result<f64, Refusal>
         ensures { answer result ≡ spec.of_solid xs.now ys.now self (spec.volume xs.now ys.now self) }
     {
+        let heights = self.heights();
+        let height = heights.top - heights.bottom;
         match self {
             Solid::Box {
                 min_x,
                 min_y,
                 max_x,
                 max_y,
-                z_bottom,
-                z_top,
+                ..
             } => {
                 let sides = Bbox {
                     min_x,
@@ -121,20 +160,14 @@ impl Solid {
                     max_x,
                     max_y,
                 };
-                box_check(sides, z_bottom, z_top, xs.len(), ys.len())?;
-                let volume = (max_x - min_x) * (max_y - min_y) * (z_top - z_bottom);
-                Ok(binary64::abs(volume))
+                box_check(sides, heights, xs, ys)?;
+                Ok(binary64::abs((max_x - min_x) * (max_y - min_y) * height))
             }
-            Solid::Prism {
-                z_bottom,
-                z_top,
-                start,
-                count,
-            } => {
-                let (part_x, part_y) = part_of(start, count, xs, ys)?;
-                let area = polygon_area(part_x, part_y)?;
-                heights_check(z_bottom, z_top)?;
-                Ok(area * binary64::abs(z_top - z_bottom))
+            Solid::Prism { start, count, .. } => {
+                let part = part_of(start, count, xs, ys)?;
+                let area = polygon_area(part.xs, part.ys)?;
+                heights.check()?;
+                Ok(area * binary64::abs(height))
             }
         }
     }
@@ -149,56 +182,28 @@ impl SolidRegion {
     }
 }
 
-// 16, 15 and 2, of point lists of m and n entries and a part of them.
-fn points_check(m: usize, n: usize, start: u32, count: u32) -> Result<(), Refusal>
-    ensures { answer result ≡ spec.points_fault m n start count }
+// Whether anything is against a box beside the point lists: 16, 2, 1.
+fn box_check(sides: Bbox, heights: Heights, xs: &[f64], ys: &[f64]) -> Result<(), Refusal>
+    ensures { answer result ≡ spec.box_fault (length xs.now) (length ys.now) sides heights.bottom heights.top }
 {
-    if m != n {
-        return Err(Refusal::UnequalLists);
-    }
-    if start as usize + count as usize > m {
-        return Err(Refusal::OutsideList);
-    }
-    if m > 2097152 {
-        return Err(Refusal::ListTooLong);
-    }
-    Ok(())
-}
-
-// 1, of two heights.
-fn heights_check(z_bottom: f64, z_top: f64) -> Result<(), Refusal>
-    ensures { answer result ≡ spec.heights_fault z_bottom z_top }
-{
-    if !(binary64::coordinate_in_range(z_bottom) & binary64::coordinate_in_range(z_top)) {
-        return Err(Refusal::NumberOutOfRange);
-    }
-    Ok(())
-}
-
-// Whether anything is against a box beside point lists of m and n entries: 16, 2, 1.
-fn box_check(sides: Bbox, z_bottom: f64, z_top: f64, m: usize, n: usize) -> Result<(), Refusal>
-    ensures { answer result ≡ spec.box_fault m n sides z_bottom z_top }
-{
-    points_check(m, n, 0, 0)?;
+    part_of(0, 0, xs, ys)?;
     let low = Point::new(sides.min_x, sides.min_y);
     let high = Point::new(sides.max_x, sides.max_y);
     if !(low.is_in_range() & high.is_in_range()) {
         return Err(Refusal::NumberOutOfRange);
     }
-    heights_check(z_bottom, z_top)
+    heights.check()
 }
 
 // A part of the point lists: 16, 15, 2.
-fn part_of<'a>(
-    start: u32,
-    count: u32,
-    xs: &'a [f64],
-    ys: &'a [f64],
-) -> Result<(&'a [f64], &'a [f64]), Refusal>
-    ensures { map_answer (λ p. (p.0.now, p.1.now)) (answer result) ≡ spec.part_of xs.now ys.now start count }
+#[tactic(auto, unfolding(crate::specs::Points::points_part))]
+fn part_of<'a>(start: u32, count: u32, xs: &'a [f64], ys: &'a [f64]) -> Result<Points<'a>, Refusal>
+    ensures { map_answer (λ p. (p.xs.now, p.ys.now)) (answer result) ≡ spec.part_of xs.now ys.now start count }
 {
-    points_check(xs.len(), ys.len(), start, count)?;
-    let first = start as usize;
-    let end = first + count as usize;
-    Ok((&xs[first..end], &ys[first..end]))
+    let points = Points::new(xs, ys)?;
+    let part = points.part(start, count).ok_or(Refusal::OutsideList)?;
+    if xs.len() > 2097152 {
+        return Err(Refusal::ListTooLong);
+    }
+    Ok(part)
 }

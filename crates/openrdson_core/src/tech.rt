@@ -1,17 +1,16 @@
 // The stack: conductors, diffusions and vias by name, and material numbers.
-ghost use Rattle.std.specs.Prelude.{◌≡◌, true, not, ◌||◌, ◌+◌, ◌*◌, ◌≤◌, length, Some, option_map, IfSome, IfOk};
-ghost use Rattle.lists.specs.Answer.{map_answer};
-ghost use Rattle.lists.specs.Lists.{part, all_below};
-ghost use Rattle.binary64.specs.Numbers.{at_most};
-ghost use Rattle.openrdson_core.specs.Blocks.{stack_ok, vias_ok, entry_of};
+ghost use Rattle.std.specs.Prelude.{◌≡◌, true, ◌+◌, ◌≤◌, length, Some, option_map, IfSome, IfOk};
+ghost use Rattle.lists.specs.Answer.{map_answer, unless, given};
+ghost use Rattle.lists.specs.Lists.{part};
+ghost use Rattle.openrdson_core.specs.Blocks.{count, stack_ok, vias_ok, row_of, entry_of};
 ghost use Rattle.openrdson_core.specs.Maps.{spanned, span_within, span_from};
 ghost use Rattle.openrdson_core.specs.Tech as spec;
 ghost use Rattle.openrdson_core.specs.Answers.{answer};
 
-use crate::blocks::{Cell, find_row, is_block, rows};
-use crate::bytes::{is_zero, name_length};
-use crate::layout::is_layer_names;
-use crate::maps::{Span, is_map};
+use crate::blocks::{Cell, Keys, is_block, rows};
+use crate::bytes::is_zero;
+use crate::layout::LayerNames;
+use crate::maps::{LayerMap, Span};
 use crate::refusals::Refusal;
 use crate::solids::Material;
 
@@ -29,18 +28,18 @@ pub struct ViaLayers {
     pub top: Option<Span>,
 }
 
-// Whether s is a conductors or a diffusions block.
-pub fn is_stack(s: &[u8]) -> bool
-    ensures { result ≡ stack_ok s.now }
-{
-    is_block(s, Cell::Name, Cell::Figures, false)
+// A block of conductors or of diffusions.
+#[derive(Clone, Copy)]
+pub struct Stack<'a> {
+    pub bytes: &'a [u8],
+    ghost sound: { stack_ok bytes.now ≡ true },
 }
 
-// Whether s is a vias block.
-pub fn is_vias(s: &[u8]) -> bool
-    ensures { result ≡ vias_ok s.now }
-{
-    is_block(s, Cell::Name, Cell::Ends, false)
+// A block of vias.
+#[derive(Clone, Copy)]
+pub struct Vias<'a> {
+    pub bytes: &'a [u8],
+    ghost sound: { vias_ok bytes.now ≡ true },
 }
 
 #[tactic(auto, using(crate::proofs::ByteLaws::eight_bytes))]
@@ -52,46 +51,6 @@ fn float_at(c: &[u8]) -> f64
     binary64::from_bits(u64::from_le_bytes(bytes))
 }
 
-fn figure_at(present: bool, c: &[u8]) -> Option<f64>
-    requires { length c.now ≡ 8 }
-    ensures { result ≡ spec.figure_of present c.now }
-{
-    if present { Some(float_at(c)) } else { None }
-}
-
-// Whether a figure is absent, or finite and at most 2^19 in size.
-fn is_figure_in(present: bool, c: &[u8]) -> bool
-    requires { length c.now ≡ 8 }
-    ensures { result ≡ (not present || at_most 19 (spec.float_of c.now)) }
-{
-    !present || binary64::figure_in_range(float_at(c))
-}
-
-#[tactic(auto, unfolding(crate::specs::Tech::figures_in))]
-fn are_figures_in(c: &[u8]) -> bool
-    requires { length c.now ≡ 17 }
-    ensures { result ≡ spec.figures_in c.now }
-{
-    let flag = c[0];
-    is_figure_in(flag % 2 == 1, &c[1..9]) && is_figure_in(flag >= 2, &c[9..17])
-}
-
-// Whether the present figures of a block are finite and at most 2^19 in size. For a caller that has checked the block.
-#[tactic(auto, using(lists::proofs::Scans::all_start, lists::proofs::Scans::all_more, crate::proofs::BlockLaws::block_counts), unfolding(crate::specs::Tech::stack_in))]
-pub fn is_stack_in(s: &[u8]) -> bool
-    requires { stack_ok s.now ≡ true }
-    ensures { result ≡ spec.stack_in s.now }
-{
-    let n = rows(s);
-    for i in 0..n {
-        let at = 2 + n * 32 + i * 17;
-        if !are_figures_in(&s[at..at + 17]) {
-            return false;
-        }
-    }
-    true
-}
-
 // The figures of a stack entry.
 fn entry_at(c: &[u8]) -> Figures
     requires { length c.now ≡ 17 }
@@ -99,20 +58,77 @@ fn entry_at(c: &[u8]) -> Figures
 {
     let flag = c[0];
     Figures {
-        height: figure_at(flag % 2 == 1, &c[1..9]),
-        thickness: figure_at(flag >= 2, &c[9..17]),
+        height: (flag % 2 == 1).then(|| float_at(&c[1..9])),
+        thickness: (flag >= 2).then(|| float_at(&c[9..17])),
     }
 }
 
-// The conductor or the diffusion of a name. For a caller that has checked the block.
-#[tactic(auto, using(crate::proofs::BlockLaws::block_counts, crate::proofs::BlockLaws::row_found))]
-pub fn find_stack_layer(s: &[u8], name: &[u8]) -> Option<Figures>
-    requires { stack_ok s.now ≡ true }
-    ensures { result ≡ option_map spec.figures_of (entry_of Cell.Figures s.now name.now) }
+// Whether the present figures of an entry are in range.
+#[tactic(auto, unfolding(crate::specs::Tech::figures_in))]
+fn are_figures_in(c: &[u8]) -> bool
+    requires { length c.now ≡ 17 }
+    ensures { result ≡ spec.figures_in c.now }
 {
-    let i = find_row(s, name)?;
-    let start = 2 + rows(s) * 32 + i * 17;
-    Some(entry_at(&s[start..start + 17]))
+    let figures = entry_at(c);
+    figures.height.is_none_or(|x| binary64::figure_in_range(x))
+        && figures
+            .thickness
+            .is_none_or(|x| binary64::figure_in_range(x))
+}
+
+impl<'a> Stack<'a> {
+    // The block, if nothing is against it; 14.
+    pub fn checked(bytes: &'a [u8]) -> Result<Self, Refusal>
+        ensures fault { map_answer (λ _. tt {0}) (answer result) ≡ unless (stack_ok bytes.now) 14 (given tt) }
+        ensures bytes { IfOk result (λ b. b.bytes.now ≡ bytes.now) }
+    {
+        if !is_block(bytes, Cell::Name, Cell::Figures, false) {
+            return Err(Refusal::BlockDamaged);
+        }
+        Ok(Stack { bytes })
+    }
+
+    // How many entries it has.
+    #[tactic(auto, using(crate::proofs::BlockLaws::block_counts))]
+    pub fn rows(self) -> usize
+        ensures { result ≡ count self.entry.bytes.now }
+    {
+        rows(self.bytes)
+    }
+
+    // Whether its present figures are finite and at most 2^19 in size.
+    #[tactic(auto, using(lists::proofs::Scans::all_start, lists::proofs::Scans::all_more, crate::proofs::BlockLaws::block_counts), unfolding(crate::specs::Tech::stack_in))]
+    pub fn is_in_range(self) -> bool
+        ensures { result ≡ spec.stack_in self.entry.bytes.now }
+    {
+        let n = self.rows();
+        for i in 0..n {
+            let at = 2 + n * 32 + i * 17;
+            if !are_figures_in(&self.bytes[at..at + 17]) {
+                return false;
+            }
+        }
+        true
+    }
+
+    // The first row of a name.
+    #[tactic(auto, using(crate::proofs::BlockLaws::block_counts))]
+    fn find_row(self, name: &[u8]) -> Option<usize>
+        ensures { result ≡ row_of self.entry.bytes.now name.now }
+    {
+        let keys = Keys { bytes: self.bytes };
+        keys.find(name)
+    }
+
+    // The figures of a name, of the first of equal names.
+    #[tactic(auto, using(crate::proofs::BlockLaws::block_counts, crate::proofs::BlockLaws::row_found))]
+    pub fn find(self, name: &[u8]) -> Option<Figures>
+        ensures { result ≡ option_map spec.figures_of (entry_of Cell.Figures self.entry.bytes.now name.now) }
+    {
+        let i = self.find_row(name)?;
+        let start = 2 + self.rows() * 32 + i * 17;
+        Some(entry_at(&self.bytes[start..start + 17]))
+    }
 }
 
 // The conductor or the diffusion of a name, the first of equal names; 14, 1.
@@ -120,13 +136,11 @@ pub fn find_stack_layer(s: &[u8], name: &[u8]) -> Option<Figures>
 pub fn stack_layer(s: &[u8], name: &[u8]) -> Result<Option<Figures>, Refusal>
     ensures { answer result ≡ spec.stack_layer s.now name.now }
 {
-    if !is_stack(s) {
-        return Err(Refusal::BlockDamaged);
-    }
-    if !is_stack_in(s) {
+    let stack = Stack::checked(s)?;
+    if !stack.is_in_range() {
         return Err(Refusal::NumberOutOfRange);
     }
-    Ok(find_stack_layer(s, name))
+    Ok(stack.find(name))
 }
 
 // The name in 32 bytes of a block from a place on, if they are not all zero.
@@ -136,30 +150,55 @@ fn end_at(s: &[u8], at: usize) -> Option<Span>
     ensures within { IfSome result (span_within s.now) }
     ensures start { IfSome result (span_from (Some at)) }
 {
-    let c = &s[at..at + 32];
-    if is_zero(c) {
+    if is_zero(&s[at..at + 32]) {
         return None;
     }
-    Some(Span {
-        start: at,
-        count: name_length(c),
-    })
+    Some(Span::name_at(s, at))
 }
 
-// The layers of the via of a name. For a caller that has checked the block.
-#[tactic(auto, using(crate::proofs::BlockLaws::block_counts, crate::proofs::BlockLaws::row_found))]
-pub fn find_via(s: &[u8], name: &[u8]) -> Option<ViaLayers>
-    requires { vias_ok s.now ≡ true }
-    ensures value { option_map (spec.via_names s.now) result ≡ option_map spec.via_names_of (entry_of Cell.Ends s.now name.now) }
-    ensures within { IfSome result (spec.via_layers_within s.now) }
-    ensures start { IfSome result (spec.via_layers_from (spec.start_of_ends s.now name.now)) }
-{
-    let i = find_row(s, name)?;
-    let start = 2 + rows(s) * 32 + i * 64;
-    Some(ViaLayers {
-        bottom: end_at(s, start),
-        top: end_at(s, start + 32),
-    })
+impl<'a> Vias<'a> {
+    // The block, if nothing is against it; 14.
+    pub fn checked(bytes: &'a [u8]) -> Result<Self, Refusal>
+        ensures fault { map_answer (λ _. tt {0}) (answer result) ≡ unless (vias_ok bytes.now) 14 (given tt) }
+        ensures bytes { IfOk result (λ b. b.bytes.now ≡ bytes.now) }
+    {
+        if !is_block(bytes, Cell::Name, Cell::Ends, false) {
+            return Err(Refusal::BlockDamaged);
+        }
+        Ok(Vias { bytes })
+    }
+
+    // How many vias it has.
+    #[tactic(auto, using(crate::proofs::BlockLaws::block_counts))]
+    pub fn rows(self) -> usize
+        ensures { result ≡ count self.entry.bytes.now }
+    {
+        rows(self.bytes)
+    }
+
+    // The first row of a name.
+    #[tactic(auto, using(crate::proofs::BlockLaws::block_counts))]
+    fn find_row(self, name: &[u8]) -> Option<usize>
+        ensures { result ≡ row_of self.entry.bytes.now name.now }
+    {
+        let keys = Keys { bytes: self.bytes };
+        keys.find(name)
+    }
+
+    // The layers of the via of a name, the first of equal names.
+    #[tactic(auto, using(crate::proofs::BlockLaws::block_counts, crate::proofs::BlockLaws::row_found))]
+    pub fn find(self, name: &[u8]) -> Option<ViaLayers>
+        ensures value { option_map (spec.via_names self.entry.bytes.now) result ≡ option_map spec.via_names_of (entry_of Cell.Ends self.entry.bytes.now name.now) }
+        ensures within { IfSome result (spec.via_layers_within self.entry.bytes.now) }
+        ensures start { IfSome result (spec.via_layers_from (spec.start_of_ends self.entry.bytes.now name.now)) }
+    {
+        let i = self.find_row(name)?;
+        let start = 2 + self.rows() * 32 + i * 64;
+        Some(ViaLayers {
+            bottom: end_at(self.bytes, start),
+            top: end_at(self.bytes, start + 32),
+        })
+    }
 }
 
 // The layers of the via of a name, the first of equal names; 14.
@@ -169,26 +208,23 @@ pub fn via_layers(s: &[u8], name: &[u8]) -> Result<Option<ViaLayers>, Refusal>
     ensures within { IfOk result (λ v. IfSome v (spec.via_layers_within s.now)) }
     ensures start { IfOk result (λ v. IfSome v (spec.via_layers_from (spec.start_of_ends s.now name.now))) }
 {
-    if !is_vias(s) {
-        return Err(Refusal::BlockDamaged);
-    }
-    Ok(find_via(s, name))
+    let vias = Vias::checked(s)?;
+    Ok(vias.find(name))
 }
 
-// The material number of a name. For a caller that has checked the three blocks.
+// The material number of a name, 0 where it has none.
 #[tactic(auto, using(crate::proofs::BlockLaws::block_counts, crate::proofs::BlockLaws::row_found), unfolding(crate::specs::Tech::material_of))]
-pub fn find_material(conductors: &[u8], diffusions: &[u8], vias: &[u8], name: &[u8]) -> Material
-    requires { (stack_ok conductors.now ≡ true) × (stack_ok diffusions.now ≡ true) × (vias_ok vias.now ≡ true) }
-    ensures { result.0 ≡ spec.material_of conductors.now diffusions.now vias.now name.now }
+fn material_of(conductors: Stack, diffusions: Stack, vias: Vias, name: &[u8]) -> Material
+    ensures { result.0 ≡ spec.material_of conductors.entry.bytes.now diffusions.entry.bytes.now vias.entry.bytes.now name.now }
 {
-    if let Some(i) = find_row(conductors, name) {
+    if let Some(i) = conductors.find_row(name) {
         return Material((i + 1) as u32);
     }
-    if let Some(i) = find_row(diffusions, name) {
-        return Material((rows(conductors) + i + 1) as u32);
+    if let Some(i) = diffusions.find_row(name) {
+        return Material((conductors.rows() + i + 1) as u32);
     }
-    if let Some(i) = find_row(vias, name) {
-        return Material((rows(conductors) + rows(diffusions) + i + 1) as u32);
+    if let Some(i) = vias.find_row(name) {
+        return Material((conductors.rows() + diffusions.rows() + i + 1) as u32);
     }
     Material(0)
 }
@@ -203,14 +239,73 @@ pub fn material_number(
 ) -> Result<Material, Refusal>
     ensures { map_answer (λ m. m.0) (answer result) ≡ spec.material_number conductors.now diffusions.now vias.now name.now }
 {
-    if !is_stack(conductors) || !is_stack(diffusions) || !is_vias(vias) {
-        return Err(Refusal::BlockDamaged);
+    let conductors = Stack::checked(conductors)?;
+    let diffusions = Stack::checked(diffusions)?;
+    let vias = Vias::checked(vias)?;
+    Ok(material_of(conductors, diffusions, vias, name))
+}
+
+// The six name blocks, as they are lent.
+#[derive(Clone, Copy)]
+pub struct Blocks<'a> {
+    pub names: &'a [u8],
+    pub conducting: &'a [u8],
+    pub via: &'a [u8],
+    pub conductors: &'a [u8],
+    pub diffusions: &'a [u8],
+    pub vias: &'a [u8],
+}
+
+// Six name blocks of which none is damaged.
+#[derive(Clone, Copy)]
+pub struct SoundBlocks<'a> {
+    pub names: LayerNames<'a>,
+    pub conducting: LayerMap<'a>,
+    pub via: LayerMap<'a>,
+    pub conductors: Stack<'a>,
+    pub diffusions: Stack<'a>,
+    pub vias: Vias<'a>,
+}
+
+impl<'a> Blocks<'a> {
+    ghost use Rattle.openrdson_core.specs.SoundBlocks.{sound_bytes};
+
+    // The blocks, if nothing is against them: 14 in their order, then 1 for stack figures.
+    #[tactic(auto, unfolding(crate::specs::Tech::blocks_fault))]
+    pub fn checked(self) -> Result<SoundBlocks<'a>, Refusal>
+        ensures fault { map_answer (λ _. tt {0}) (answer result) ≡ spec.fault_of (spec.bytes_of self.entry) }
+        ensures bytes { IfOk result (λ b. sound_bytes b ≡ spec.bytes_of self.entry) }
+    {
+        let names = LayerNames::checked(self.names)?;
+        let conducting = LayerMap::checked(self.conducting)?;
+        let via = LayerMap::checked(self.via)?;
+        let conductors = Stack::checked(self.conductors)?;
+        let diffusions = Stack::checked(self.diffusions)?;
+        let vias = Vias::checked(self.vias)?;
+        if !conductors.is_in_range() || !diffusions.is_in_range() {
+            return Err(Refusal::NumberOutOfRange);
+        }
+        Ok(SoundBlocks {
+            names,
+            conducting,
+            via,
+            conductors,
+            diffusions,
+            vias,
+        })
     }
-    Ok(find_material(conductors, diffusions, vias, name))
+}
+
+impl SoundBlocks<'_> {
+    // The material number of a name, 0 where it has none.
+    pub fn find_material(self, name: &[u8]) -> Material
+        ensures { result.0 ≡ spec.material_of self.entry.conductors.bytes.now self.entry.diffusions.bytes.now self.entry.vias.bytes.now name.now }
+    {
+        material_of(self.conductors, self.diffusions, self.vias, name)
+    }
 }
 
 // Whether anything is against the six blocks: 14 in their order, then 1 for stack figures.
-#[tactic(auto, unfolding(crate::specs::Tech::blocks_fault))]
 pub fn check_blocks(
     names: &[u8],
     conducting: &[u8],
@@ -221,14 +316,14 @@ pub fn check_blocks(
 ) -> Result<(), Refusal>
     ensures { answer result ≡ spec.blocks_fault names.now conducting.now via.now conductors.now diffusions.now vias.now }
 {
-    if !is_layer_names(names) || !is_map(conducting) || !is_map(via) {
-        return Err(Refusal::BlockDamaged);
-    }
-    if !is_stack(conductors) || !is_stack(diffusions) || !is_vias(vias) {
-        return Err(Refusal::BlockDamaged);
-    }
-    if !is_stack_in(conductors) || !is_stack_in(diffusions) {
-        return Err(Refusal::NumberOutOfRange);
-    }
+    let blocks = Blocks {
+        names,
+        conducting,
+        via,
+        conductors,
+        diffusions,
+        vias,
+    };
+    blocks.checked()?;
     Ok(())
 }

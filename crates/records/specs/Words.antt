@@ -1,5 +1,6 @@
 -- The words of a record, what they stand for, and counts.
-use Rattle.std.specs.Prelude.{ℕ, ◌+◌, ◌-◌, ◌*◌, ◌^◌, List, length, take, drop, cond, min, nat_le, ℤ, pos, negsuc, int_lt, Float, is_nan, to_bits}
+use Rattle.std.specs.Prelude.{ℕ, zero, suc, ◌+◌, ◌-◌, ◌*◌, ◌^◌, List, length, take, drop, cond, min, nat_le, nat_eq, Bool, ◌&&◌, slice_range, [], ℤ, pos, negsuc, int_lt, Float, is_nan, to_bits}
+use Rattle.std.specs.List.{list_all, enumerate_from, range_with_len}
 use Rattle.std.specs.Float.{binary64}
 use Rattle.std.specs.Int.{w64, from_le_bytes, cast_signed}
 
@@ -26,3 +27,36 @@ short_of n = let z = cast_signed w64 n in cond (int_lt z (negsuc 32767)) (pos 0)
 -- A float's bit pattern, the same for every NaN.
 unfoldable pub bits_of : Float → ℕ
 bits_of x = cond (is_nan x) 0x7ff8000000000000 (to_bits binary64 x)
+
+-- The bytes from byte i to before byte j, and none where j is before i or past the end.
+unfoldable pub part : List ℕ → ℕ → ℕ → List ℕ
+part s i j = cond (nat_le i j && nat_le j (length s)) (slice_range s i j) []
+
+-- The sum of n words from place i on, each `most` at most.
+abbrev pub sum_of : ℕ → List ℕ → ℕ → ℕ → ℕ
+sum_of most s i zero = 0
+sum_of most s i (suc n) = sum_of most s i n + min most (word s (i + n))
+
+-- Where part i starts, of parts of at most 1,024 bytes whose lengths stand from word 1 on and that stand one after the other from byte `head` on.
+abbrev pub part_start : List ℕ → ℕ → ℕ → ℕ
+part_start s head i = head + sum_of 1024 s 1 (i - 1)
+
+-- Whether the words from place i to before place j are at most so large.
+abbrev pub are_within : List ℕ → ℕ → ℕ → ℕ → Bool
+are_within s i j most = list_all (λ k. nat_le (word s k) most) (range_with_len i (j - i))
+
+-- Whether a record begins with the words of these entries.
+abbrev pub begins : {X : Type 0} → (X → ℕ) → List ℕ → List X → Bool
+begins to_word s xs = list_all (λ p. nat_eq (to_word p.1) (word s p.0)) (enumerate_from 0 xs)
+
+-- Whether each entry has the word of `x`.
+abbrev pub all_are : {X : Type 0} → (X → ℕ) → X → List X → Bool
+all_are to_word x xs = list_all (λ y. nat_eq (to_word y) (to_word x)) xs
+
+-- Whether a list has the words of a record from place i to before place j, and the word of `before` elsewhere.
+abbrev pub is_left : {X : Type 0} → (X → ℕ) → X → List ℕ → List X → ℕ → ℕ → Bool
+is_left to_word before s xs i j =
+    let from = min i (length xs) in
+    let rest = drop from xs in
+    let n = min (j - i) (length rest) in
+    all_are to_word before (take from xs) && all_are to_word before (drop n rest) && begins to_word s (take n rest)

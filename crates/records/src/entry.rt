@@ -9,7 +9,7 @@ pub trait Entry: Copy + Default {
 
     ghost to_word: { Self → ℕ };
 
-    // The entry of a word, or the nearest.
+    // The entry of a word. A word that is none gives the type's largest, or what the impl says.
     fn of(word: u64) -> Self
         ensures { result ≡ of_word word };
 
@@ -20,6 +20,8 @@ pub trait Entry: Copy + Default {
 
 // What stands in every entry of a list before a call that it is lent to.
 pub trait Lent: Entry {
+    ghost BEFORE: { Self };
+
     const BEFORE: Self;
 }
 
@@ -38,6 +40,8 @@ impl Entry for u8 {
 }
 
 impl Lent for u8 {
+    ghost BEFORE = { 165 };
+
     const BEFORE: Self = 165;
 }
 
@@ -56,6 +60,8 @@ impl Entry for u32 {
 }
 
 impl Lent for u32 {
+    ghost BEFORE = { 2779096485 };
+
     const BEFORE: Self = 2779096485;
 }
 
@@ -123,5 +129,7 @@ impl Entry for f64 {
 }
 
 impl Lent for f64 {
+    ghost BEFORE = { from_bits binary64 0xc064a00000000000 };
+
     const BEFORE: Self = -165.0;
 }

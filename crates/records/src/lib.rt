@@ -11,4 +11,3 @@ pub use answer::Answer;
 pub use entry::{Entry, Lent};
 pub use record::Record;
 pub use replay::{Call, read_on, run};
-pub use tally::Tally;

@@ -1,11 +1,11 @@
 // A record: words of eight bytes, little-endian.
-ghost use Rattle.std.specs.Prelude.{◌≡◌, ◌≤◌, ◌*◌, ◌-◌, min};
+ghost use Rattle.std.specs.Prelude.{◌≡◌, ◌≤◌, ◌+◌, ◌*◌, ◌-◌, map, min};
+ghost use Rattle.std.specs.List.{range_with_len};
 ghost use Rattle.arrayvec.specs.ArrayVec.{array_vec_len};
 ghost use Rattle.records.specs.Words as spec;
 
 use crate::entry::{Entry, Lent};
 use arrayvec::ArrayVec;
-use std::array;
 use std::ops::Range;
 
 #[derive(Clone, Copy)]
@@ -40,10 +40,15 @@ impl<'a> Record<'a> {
 
     // The n entries from place i on, or the first N where there are more.
     pub fn list<T: Entry, const N: usize>(self, i: usize, n: usize) -> ArrayVec<T, N>
-        ensures { array_vec_len result ≡ min n N }
+        ensures len { array_vec_len result ≡ min n N }
+        ensures items { result.items ≡ map (λ k. T.of_word (spec.word (spec.after self.entry.0.now i) k)) (range_with_len 0 (min n N)) }
     {
         let rest = self.after(i);
-        let mut list = ArrayVec::from(array::from_fn(|k| rest.at(k)));
+        let mut entries = [T::default(); N];
+        for k in 0..n.min(N) {
+            entries[k] = rest.at(k);
+        }
+        let mut list = ArrayVec::from(entries);
         list.truncate(n);
         list
     }
@@ -67,7 +72,8 @@ impl<'a> Record<'a> {
     // The sum of the words at these places, each `most` at most.
     pub fn sum(self, places: Range<usize>, most: usize) -> usize
         requires fits { most * (places.end - places.start) ≤ 65536 }
-        ensures { result ≤ most * (places.end - places.start) }
+        ensures bound { result ≤ most * (places.end - places.start) }
+        ensures value { result ≡ spec.sum_of most self.entry.0.now places.start (places.end - places.start) }
     {
         let mut sum = 0;
         for i in places.start..places.end {
@@ -77,17 +83,57 @@ impl<'a> Record<'a> {
     }
 
     // Whether the words at these places are at most so large.
-    pub fn are_within(self, mut places: Range<usize>, most: u64) -> bool {
+    pub fn are_within(self, mut places: Range<usize>, most: u64) -> bool
+        ensures { result ≡ spec.are_within self.entry.0.now places.start places.end most }
+    {
         places.all(|i| self.word(i) <= most)
     }
 
     // The bytes of a part, and none where it ends past the record's end.
-    pub fn bytes(self, part: Range<usize>) -> &'a [u8] {
+    #[tactic(auto, unfolding(crate::specs::Words::part))]
+    pub fn bytes(self, part: Range<usize>) -> &'a [u8]
+        ensures { result.now ≡ spec.part self.entry.0.now part.start part.end }
+    {
         self.0.get(part).unwrap_or(&[])
     }
 
+    // Where byte part i starts, of those whose lengths stand from word 1 on and whose bytes stand one after the other from byte `head` on.
+    fn part_start(self, head: usize, i: usize) -> usize
+        requires head { head ≤ 288 }
+        requires number { i ≤ 8 }
+        ensures low { head ≤ result }
+        ensures high { result ≤ head + 1024 * (i - 1) }
+        ensures value { result ≡ spec.part_start self.entry.0.now head i }
+    {
+        head + self.sum(1..i, 1024)
+    }
+
+    // Byte part i.
+    pub fn part(self, head: usize, i: usize) -> &'a [u8]
+        requires head { head ≤ 288 }
+        requires number { i ≤ 7 }
+        ensures { result.now ≡ spec.part self.entry.0.now (spec.part_start self.entry.0.now head i) (spec.part_start self.entry.0.now head i + min 1024 (spec.word self.entry.0.now i)) }
+    {
+        let start = self.part_start(head, i);
+        self.bytes(start..start + self.length(i))
+    }
+
+    // The word after n byte parts and their padding.
+    pub fn after_parts(self, head: usize, n: usize) -> usize
+        requires head { head ≤ 288 }
+        requires number { n ≤ 7 }
+        ensures low { head ≤ 8 * result }
+        ensures high { 8 * result ≤ head + 1024 * n + 7 }
+        ensures past { spec.part_start self.entry.0.now head (n + 1) ≤ 8 * result }
+        ensures next { 8 * result ≤ spec.part_start self.entry.0.now head (n + 1) + 7 }
+    {
+        self.part_start(head, n + 1).div_ceil(8)
+    }
+
     // Whether it begins with these entries.
-    pub fn begins<T: Entry>(self, entries: &[T]) -> bool {
+    pub fn begins<T: Entry>(self, entries: &[T]) -> bool
+        ensures { result ≡ spec.begins T.to_word self.entry.0.now entries.now }
+    {
         entries
             .iter()
             .enumerate()
@@ -95,11 +141,20 @@ impl<'a> Record<'a> {
     }
 
     // Whether a list that was lent has the entries of `written` from place i on, and is as before elsewhere.
-    pub fn is_left<T: Lent>(self, i: usize, list: &[T], written: Range<usize>) -> bool {
+    pub fn is_left<T: Lent>(self, i: usize, list: &[T], written: Range<usize>) -> bool
+        ensures { result ≡ spec.is_left T.Entry.to_word T.BEFORE (spec.after self.entry.0.now i) list.now written.start written.end }
+    {
         let from = written.start.min(list.len());
         let (head, rest) = list.split_at(from);
         let (new, tail) = rest.split_at(written.len().min(rest.len()));
-        let before = T::BEFORE.word();
-        head.iter().chain(tail).all(|x| x.word() == before) & self.after(i).begins(new)
+        is_before(head) && is_before(tail) && self.after(i).begins(new)
     }
+}
+
+// Whether a list that was lent is as before.
+fn is_before<T: Lent>(list: &[T]) -> bool
+    ensures { result ≡ spec.all_are T.Entry.to_word T.BEFORE list.now }
+{
+    let before = T::BEFORE.word();
+    list.iter().all(|x| x.word() == before)
 }

@@ -1,5 +1,5 @@
 // Replaying the records of the input on a program's calls.
-ghost use Rattle.std.specs.Prelude.{◌≡◌, ℕ, ◌<◌, ◌≤◌, length, take, slice_range, IfOk};
+ghost use Rattle.std.specs.Prelude.{◌≡◌, ℕ, ◌*◌, ◌^◌, ◌<◌, ◌≤◌, length, take, slice_range, IfOk};
 ghost use Rattle.std.specs.Io.KnownBytes.{Consumes, IsAtEnd};
 
 use crate::record::Record;
@@ -8,19 +8,16 @@ use std::fmt::Display;
 use std::io;
 use std::io::Read;
 
-// The calls of a program, each shown by its name.
-pub trait Call: Copy + Display + 'static {
+// The N calls of a program, each shown by its name. A record has at most M bytes.
+pub trait Call<const N: usize, const M: usize>: Copy + Display + 'static {
     ghost HEAD: { ℕ };
 
-    ghost LARGEST: { ℕ };
-
-    // The calls in the order of the report.
-    const ALL: &'static [Self];
-
-    // How many bytes tell a record's size, and how many it has at most.
+    // How many bytes tell a record's size.
     const HEAD: usize;
 
-    const LARGEST: usize;
+    // The calls in the order of the report.
+    fn all() -> &'static [Self]
+        ensures { length result.now ≡ N };
 
     // The number that stands for the call in word 0.
     fn number(self) -> u64;
@@ -28,7 +25,7 @@ pub trait Call: Copy + Display + 'static {
     // The bytes of a record that begins like this one.
     fn size_of(record: Record<'_>) -> usize
         ensures low { HEAD ≤ result }
-        ensures high { result ≤ LARGEST };
+        ensures high { result ≤ M };
 
     // Whether a record of the call has numbers and lists' lengths that it may have.
     fn is_sound(self, record: Record<'_>) -> bool;
@@ -64,10 +61,12 @@ pub fn read_on<R: Read>(
 }
 
 // Reads the next record of the input, and gives how many bytes there were.
-fn read_record<C: Call>(input: &mut impl Read, buffer: &mut [u8]) -> io::Result<usize>
-    requires head { C.HEAD ≤ C.LARGEST }
-    requires room { C.LARGEST ≡ length buffer.old }
-    ensures { IfOk result (λ n. n ≤ C.LARGEST) }
+fn read_record<const N: usize, const M: usize, C: Call<N, M>>(
+    input: &mut impl Read,
+    buffer: &mut [u8; M],
+) -> io::Result<usize>
+    requires { C.HEAD ≤ M }
+    ensures { IfOk result (λ n. n ≤ M) }
 {
     let n = read_on(input, buffer, 0, C::HEAD)?;
     if n < C::HEAD {
@@ -78,8 +77,11 @@ fn read_record<C: Call>(input: &mut impl Read, buffer: &mut [u8]) -> io::Result<
 }
 
 // Replays a record in the tally of its call, and gives false where it is damaged.
-fn replay_record<C: Call>(record: Record<'_>, tallies: &mut [Tally]) -> bool {
-    let mut calls = C::ALL.iter().zip(tallies.iter_mut());
+fn replay_record<const N: usize, const M: usize, C: Call<N, M>>(
+    record: Record<'_>,
+    tallies: &mut [Tally; N],
+) -> bool {
+    let mut calls = C::all().iter().zip(tallies.iter_mut());
     let Some((call, tally)) = calls.find(|(call, _)| call.number() == record.word(0)) else {
         return false;
     };
@@ -91,21 +93,20 @@ fn replay_record<C: Call>(record: Record<'_>, tallies: &mut [Tally]) -> bool {
 }
 
 // Replays the records of the input up to the first damaged one, each in the tally of its call, and gives the tally of those that are damaged.
-fn replay<C: Call>(
+fn replay<const N: usize, const M: usize, C: Call<N, M>>(
     input: &mut impl Read,
-    buffer: &mut [u8],
-    tallies: &mut [Tally],
+    buffer: &mut [u8; M],
+    tallies: &mut [Tally; N],
 ) -> io::Result<Tally>
-    requires head { C.HEAD ≤ C.LARGEST }
-    requires room { C.LARGEST ≡ length buffer.old }
+    requires { C.HEAD ≤ M }
 {
     let mut damaged = Tally::NONE;
     for _ in 0..u64::MAX {
-        let n = read_record::<C>(input, buffer)?;
+        let n = read_record::<N, M, C>(input, buffer)?;
         if n == 0 {
             break;
         }
-        if !replay_record::<C>(Record(&buffer[..n]), tallies) {
+        if !replay_record::<N, M, C>(Record(&buffer[..n]), tallies) {
             damaged.count(false);
             break;
         }
@@ -114,18 +115,19 @@ fn replay<C: Call>(
 }
 
 // Replays the records of the input, and prints how many there are of each call, and how many of them it answers otherwise.
-pub fn run<C: Call>(
+pub fn run<const N: usize, const M: usize, C: Call<N, M>>(
     rt: &impl Print,
     input: &mut impl Read,
-    buffer: &mut [u8],
-    tallies: &mut [Tally],
 ) -> io::Result<()>
-    requires head { C.HEAD ≤ C.LARGEST }
-    requires room { C.LARGEST ≡ length buffer.old }
+    requires head { C.HEAD ≤ M }
+    requires buffer { M < 2 ^ 63 }
+    requires tallies { N * 16 < 2 ^ 63 }
 {
-    let damaged = replay::<C>(input, buffer, tallies)?;
+    let mut buffer = [0; M];
+    let mut tallies = [Tally::NONE; N];
+    let damaged = replay::<N, M, C>(input, &mut buffer, &mut tallies)?;
     let mut all = damaged;
-    for (call, tally) in C::ALL.iter().zip(tallies.iter()) {
+    for (call, tally) in C::all().iter().zip(tallies.iter()) {
         println!(rt; "{call} {tally}")?;
         all = all.plus(*tally);
     }

@@ -1,5 +1,4 @@
 // The calls, and a record of each: the call's number, the lists' lengths, eight parameters, the lists, and the answer.
-use crate::answers::{bounded, float, judged, measured};
 use openrdson_core::{Bbox, Solid};
 use records::{Answer, Record};
 use std::fmt;
@@ -66,47 +65,45 @@ impl Call {
     fn answer(self, record: Record<'_>, xs: &[f64], ys: &[f64]) -> Answer {
         let x = record.at(3);
         match self {
-            Call::SignedArea => measured(openrdson_core::polygon_signed_area(xs, ys)),
-            Call::Area => measured(openrdson_core::polygon_area(xs, ys)),
-            Call::IsCcw => judged(openrdson_core::is_ccw(xs, ys)),
-            Call::IsRectangle => judged(openrdson_core::is_axis_aligned_rectangle(xs, ys)),
-            Call::PointsBounds => bounded(Bbox::from_points(xs, ys)),
-            Call::BoxVolume => measured(the_box(record).volume(xs, ys)),
-            Call::PrismVolume => measured(the_prism(record).volume(xs, ys)),
-            Call::BoxBounds => bounded(the_box(record).footprint_bbox(xs, ys)),
-            Call::PrismBounds => bounded(the_prism(record).footprint_bbox(xs, ys)),
-            Call::Sqrt => float(binary64::sqrt(x)),
-            Call::Abs => float(binary64::abs(x)),
-            Call::CeilCapped => Answer::whole(binary64::ceil_capped(x)),
-            Call::NearestCapped => Answer::whole(binary64::nearest_capped(x).cast_unsigned()),
+            Call::SignedArea => Answer::from(openrdson_core::polygon_signed_area(xs, ys)),
+            Call::Area => Answer::from(openrdson_core::polygon_area(xs, ys)),
+            Call::IsCcw => Answer::from(openrdson_core::is_ccw(xs, ys)),
+            Call::IsRectangle => Answer::from(openrdson_core::is_axis_aligned_rectangle(xs, ys)),
+            Call::PointsBounds => Answer::from(Bbox::from_points(xs, ys)),
+            Call::BoxVolume => Answer::from(the_box(record).volume(xs, ys)),
+            Call::PrismVolume => Answer::from(the_prism(record).volume(xs, ys)),
+            Call::BoxBounds => Answer::from(the_box(record).footprint_bbox(xs, ys)),
+            Call::PrismBounds => Answer::from(the_prism(record).footprint_bbox(xs, ys)),
+            Call::Sqrt => Answer::from(binary64::sqrt(x)),
+            Call::Abs => Answer::from(binary64::abs(x)),
+            Call::CeilCapped => Answer::from(binary64::ceil_capped(x)),
+            Call::NearestCapped => Answer::from(binary64::nearest_capped(x).cast_unsigned()),
         }
     }
 }
 
-impl records::Call for Call {
-    const ALL: &'static [Self] = &[
-        Call::SignedArea,
-        Call::Area,
-        Call::IsCcw,
-        Call::IsRectangle,
-        Call::PointsBounds,
-        Call::BoxVolume,
-        Call::PrismVolume,
-        Call::BoxBounds,
-        Call::PrismBounds,
-        Call::Sqrt,
-        Call::Abs,
-        Call::CeilCapped,
-        Call::NearestCapped,
-    ];
+impl records::Call<13, 16512> for Call {
+    fn all() -> &'static [Self] {
+        &[
+            Call::SignedArea,
+            Call::Area,
+            Call::IsCcw,
+            Call::IsRectangle,
+            Call::PointsBounds,
+            Call::BoxVolume,
+            Call::PrismVolume,
+            Call::BoxBounds,
+            Call::PrismBounds,
+            Call::Sqrt,
+            Call::Abs,
+            Call::CeilCapped,
+            Call::NearestCapped,
+        ]
+    }
 
     ghost HEAD = { 24 };
 
     const HEAD: usize = 24;
-
-    ghost LARGEST = { 16512 };
-
-    const LARGEST: usize = 16512;
 
     fn number(self) -> u64 {
         self as u64

@@ -1,10 +1,9 @@
 // The calls, and a record of each: the call's number, the slices' lengths, the layer's number, the slices, and the answer.
 ghost use Rattle.std.specs.Prelude.{◌≤◌};
 
-use crate::answers::{checked, layer_named, looked_up, named, numbered, of_stack, of_via};
-use crate::slices::{answer_place, size_of, slice};
 use openrdson_core::{
-    is_marker, layer_name, look_up, material_number, name_place, stack_layer, via_layers,
+    check_blocks, is_marker, layer_name, look_up, material_number, name_place, stack_layer,
+    via_layers,
 };
 use records::{Answer, Entry, Record};
 use std::fmt;
@@ -36,15 +35,16 @@ impl fmt::Display for Call {
     }
 }
 
-fn check_blocks(record: Record<'_>) -> Answer {
-    let names = slice(record, 1);
-    let conducting = slice(record, 2);
-    let via = slice(record, 3);
-    let conductors = slice(record, 4);
-    let diffusions = slice(record, 5);
-    let vias = slice(record, 6);
-    let given = openrdson_core::check_blocks(names, conducting, via, conductors, diffusions, vias);
-    checked(given)
+// The byte where the slices start, and how many there are.
+const SLICES: usize = 72;
+
+const COUNT: usize = 7;
+
+// Slice i.
+fn slice(record: Record<'_>, i: usize) -> &[u8]
+    requires { i ≤ 7 }
+{
+    record.part(SLICES, i)
 }
 
 impl Call {
@@ -74,49 +74,51 @@ impl Call {
         let first = slice(record, 1);
         let second = slice(record, 2);
         let third = slice(record, 3);
+        let fourth = slice(record, 4);
         match self {
-            Call::CheckBlocks => check_blocks(record),
-            Call::LookUp => looked_up(look_up(first, second, third)),
-            Call::PhysicalName => {
-                named(name_place(first, second, third), first.len(), second.len())
-            }
-            Call::LayerName => layer_named(layer_name(first, record.at(8)), first.len()),
-            Call::StackLayer => of_stack(stack_layer(first, second)),
-            Call::ViaLayers => of_via(via_layers(first, second), first.len()),
-            Call::MaterialNumber => {
-                numbered(material_number(first, second, third, slice(record, 4)))
-            }
-            Call::IsMarker => Answer::whole(u64::from(is_marker(first))),
+            Call::CheckBlocks => Answer::from(check_blocks(
+                first,
+                second,
+                third,
+                fourth,
+                slice(record, 5),
+                slice(record, 6),
+            )),
+            Call::LookUp => Answer::from(look_up(first, second, third)),
+            Call::PhysicalName => Answer::from(name_place(first, second, third)),
+            Call::LayerName => Answer::from(layer_name(first, record.at(8))),
+            Call::StackLayer => Answer::from(stack_layer(first, second)),
+            Call::ViaLayers => Answer::from(via_layers(first, second)),
+            Call::MaterialNumber => Answer::from(material_number(first, second, third, fourth)),
+            Call::IsMarker => Answer::from(is_marker(first)),
         }
     }
 }
 
-impl records::Call for Call {
-    const ALL: &'static [Self] = &[
-        Call::CheckBlocks,
-        Call::LookUp,
-        Call::PhysicalName,
-        Call::LayerName,
-        Call::StackLayer,
-        Call::ViaLayers,
-        Call::MaterialNumber,
-        Call::IsMarker,
-    ];
+impl records::Call<8, 8256> for Call {
+    fn all() -> &'static [Self] {
+        &[
+            Call::CheckBlocks,
+            Call::LookUp,
+            Call::PhysicalName,
+            Call::LayerName,
+            Call::StackLayer,
+            Call::ViaLayers,
+            Call::MaterialNumber,
+            Call::IsMarker,
+        ]
+    }
 
     ghost HEAD = { 72 };
 
     const HEAD: usize = 72;
-
-    ghost LARGEST = { 8256 };
-
-    const LARGEST: usize = 8256;
 
     fn number(self) -> u64 {
         self as u64
     }
 
     fn size_of(record: Record<'_>) -> usize {
-        size_of(record)
+        (record.after_parts(SLICES, COUNT) + 8) * 8
     }
 
     // Whether the call's slices have at most 1,024 bytes and the others none, and the layer's number is right.
@@ -128,7 +130,7 @@ impl records::Call for Call {
     }
 
     fn is_answered(self, record: Record<'_>) -> bool {
-        let place = answer_place(record);
+        let place = record.after_parts(SLICES, COUNT);
         self.answer(record).is_recorded(record.after(place))
     }
 }

@@ -24,21 +24,19 @@ impl fmt::Display for Call {
     }
 }
 
-impl records::Call for Call {
-    const ALL: &'static [Self] = &[
-        Call::CellCount,
-        Call::AxisCoordinate,
-        Call::MeshBox,
-        Call::MeshPrism,
-    ];
+impl records::Call<4, 20696> for Call {
+    fn all() -> &'static [Self] {
+        &[
+            Call::CellCount,
+            Call::AxisCoordinate,
+            Call::MeshBox,
+            Call::MeshPrism,
+        ]
+    }
 
     ghost HEAD = { 216 };
 
     const HEAD: usize = 216;
-
-    ghost LARGEST = { 20696 };
-
-    const LARGEST: usize = 20696;
 
     fn number(self) -> u64 {
         self as u64

@@ -7,11 +7,9 @@ mod meshes;
 mod places;
 
 use calls::Call;
-use records::Tally;
 use std::io;
 
+// A program has a main of its own; `run` is what the four share.
 fn main(rt: HostRuntime) -> io::Result<()> {
-    let mut buffer = [0u8; 20696];
-    let mut tallies = [Tally::NONE; 4];
-    records::run::<Call>(&rt, &mut rt.stdin(), &mut buffer, &mut tallies)
+    records::run::<4, 20696, Call>(&rt, &mut rt.stdin())
 }

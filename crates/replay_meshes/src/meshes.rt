@@ -1,7 +1,7 @@
 // Calls that append to a mesh: the nodes and elements that they add are the record's, and every other entry is as before.
 use crate::places::{POINTS, elements, elements_place, nodes, nodes_place};
 use meshing::{MeshConfig, mesh_box, mesh_prism};
-use openrdson_core::{Bbox, Counts, Material, Refusal};
+use openrdson_core::{Bbox, Counts, Heights, Material, MeshLists, Refusal};
 use records::{Answer, Lent, Record};
 
 // A mesh's lists, of which a call is lent the record's lengths.
@@ -64,6 +64,13 @@ fn bounds(record: Record<'_>) -> Bbox {
     }
 }
 
+fn heights(record: Record<'_>) -> Heights {
+    Heights {
+        bottom: record.at(15),
+        top: record.at(16),
+    }
+}
+
 // The record's box, meshed.
 pub fn meshed_box(record: Record<'_>) -> (Result<Counts, Refusal>, Mesh) {
     let mut mesh = Mesh::BEFORE;
@@ -71,20 +78,22 @@ pub fn meshed_box(record: Record<'_>) -> (Result<Counts, Refusal>, Mesh) {
         lateral_cell: record.at(17),
         z_cell: record.at(18),
     };
+    let mut lists = MeshLists {
+        xs: &mut mesh.xs[..record.at_most(3, 64)],
+        ys: &mut mesh.ys[..record.at_most(4, 64)],
+        zs: &mut mesh.zs[..record.at_most(5, 64)],
+        kinds: &mut mesh.kinds[..record.at_most(6, 32)],
+        places: &mut mesh.places[..record.at_most(7, 256)],
+        regions: &mut mesh.regions[..record.at_most(8, 32)],
+    };
     let meshed = mesh_box(
         bounds(record),
-        record.at(15),
-        record.at(16),
+        heights(record),
         Material(record.at(19)),
         record.at(20),
         config,
         counts(record),
-        &mut mesh.xs[..record.at_most(3, 64)],
-        &mut mesh.ys[..record.at_most(4, 64)],
-        &mut mesh.zs[..record.at_most(5, 64)],
-        &mut mesh.kinds[..record.at_most(6, 32)],
-        &mut mesh.places[..record.at_most(7, 256)],
-        &mut mesh.regions[..record.at_most(8, 32)],
+        &mut lists,
     );
     (meshed, mesh)
 }
@@ -95,32 +104,26 @@ pub fn meshed_prism(record: Record<'_>) -> (Result<Counts, Refusal>, Mesh) {
     let xs = record.list::<f64, 1024>(POINTS, m);
     let ys = record.list::<f64, 1024>(POINTS + m, record.length(2));
     let mut mesh = Mesh::BEFORE;
+    let mut lists = MeshLists {
+        xs: &mut mesh.xs[..record.at_most(3, 64)],
+        ys: &mut mesh.ys[..record.at_most(4, 64)],
+        zs: &mut mesh.zs[..record.at_most(5, 64)],
+        kinds: &mut mesh.kinds[..record.at_most(6, 32)],
+        places: &mut mesh.places[..record.at_most(7, 256)],
+        regions: &mut mesh.regions[..record.at_most(8, 32)],
+    };
     let meshed = mesh_prism(
         &xs,
         &ys,
-        record.at(15),
-        record.at(16),
+        heights(record),
         record.at(21),
         record.at(22),
         Material(record.at(19)),
         record.at(20),
         counts(record),
-        &mut mesh.xs[..record.at_most(3, 64)],
-        &mut mesh.ys[..record.at_most(4, 64)],
-        &mut mesh.zs[..record.at_most(5, 64)],
-        &mut mesh.kinds[..record.at_most(6, 32)],
-        &mut mesh.places[..record.at_most(7, 256)],
-        &mut mesh.regions[..record.at_most(8, 32)],
+        &mut lists,
     );
     (meshed, mesh)
-}
-
-// The status and the counts.
-fn answer(meshed: Result<Counts, Refusal>) -> Answer {
-    match meshed {
-        Ok(counts) => Answer::given(0, counts.nodes as u64, counts.elements as u64, 0, 0),
-        Err(why) => Answer::refused(u64::from(u32::from(why))),
-    }
 }
 
 // Whether a call answers what the record says, and leaves the mesh as it says. The answer's last words are past the head's end.
@@ -128,5 +131,5 @@ pub fn is_recorded(record: Record<'_>, (meshed, mesh): (Result<Counts, Refusal>,
     let head = Record(record.bytes(0..8 * POINTS));
     mesh.are_nodes_recorded(record)
         && mesh.are_elements_recorded(record)
-        && answer(meshed).is_recorded(head.after(23))
+        && Answer::from(meshed).is_recorded(head.after(23))
 }

@@ -25,21 +25,19 @@ impl fmt::Display for Call {
     }
 }
 
-impl records::Call for Call {
-    const ALL: &'static [Self] = &[
-        Call::ExtrudePolygon,
-        Call::ExtrudeBox,
-        Call::TotalVolume,
-        Call::AssembleStack,
-    ];
+impl records::Call<4, 24992> for Call {
+    fn all() -> &'static [Self] {
+        &[
+            Call::ExtrudePolygon,
+            Call::ExtrudeBox,
+            Call::TotalVolume,
+            Call::AssembleStack,
+        ]
+    }
 
     ghost HEAD = { 288 };
 
     const HEAD: usize = 288;
-
-    ghost LARGEST = { 24992 };
-
-    const LARGEST: usize = 24992;
 
     fn number(self) -> u64 {
         self as u64

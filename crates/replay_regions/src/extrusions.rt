@@ -1,8 +1,10 @@
 // Extruding: the region is the one row of the record's region lists, whose entries are then twelve words in a row.
-use crate::places::{Points, list_place};
+ghost use Rattle.std.specs.Prelude.{◌≤◌};
+
+use crate::places::{List, Points};
 use geometry::{extrude_box, extrude_polygon};
-use openrdson_core::{Bbox, Material, PolygonNumber, Refusal, Solid, SolidRegion};
-use records::{Entry, Record};
+use openrdson_core::{Bbox, Heights, Material, PolygonNumber, Refusal, Solid, SolidRegion};
+use records::{Answer, Entry, Record};
 
 // A solid's words, its kind first: a prism's first four bounds and a box's start and count are zero.
 fn solid_words(solid: Solid) -> [u64; 9] {
@@ -48,15 +50,20 @@ fn is_row(row: Record<'_>, region: SolidRegion) -> bool {
     row.begins(&solid_words(solid)) & row.after(9).begins(&[material, net, polygon])
 }
 
-// Whether the record says this.
+// Whether the record says this: the status, one row and the region in it, or no row.
 fn is_recorded(record: Record<'_>, built: Result<SolidRegion, Refusal>) -> bool {
-    let rows = record.word(13);
-    let status = record.word(34);
-    match built {
-        Ok(region) => {
-            status == 0 && rows == 1 && is_row(record.after(list_place(record, 13)), region)
-        }
-        Err(why) => status == u64::from(u32::from(why)) && rows == 0,
+    let row = record.after(List::Kinds.place(record));
+    let said = [record.word(34), record.word(13), 0, 0, 0, 0, 0, 0];
+    Answer::from(built.map(|_| 1u64)).0 == said && built.map_or(true, |region| is_row(row, region))
+}
+
+// The heights at place i.
+fn heights(record: Record<'_>, i: usize) -> Heights
+    requires { i ≤ 30 }
+{
+    Heights {
+        bottom: record.at(i),
+        top: record.at(i + 1),
     }
 }
 
@@ -66,8 +73,7 @@ pub fn is_polygon_answered(record: Record<'_>) -> bool {
     let built = extrude_polygon(
         &points.xs,
         &points.ys,
-        record.at(26),
-        record.at(27),
+        heights(record, 26),
         Material(record.at(32)),
         record.at(33),
     );
@@ -84,8 +90,7 @@ pub fn is_box_answered(record: Record<'_>) -> bool {
     };
     let built = extrude_box(
         sides,
-        record.at(30),
-        record.at(31),
+        heights(record, 30),
         Material(record.at(32)),
         record.at(33),
     );

@@ -8,11 +8,9 @@ mod stacks;
 mod totals;
 
 use calls::Call;
-use records::Tally;
 use std::io;
 
+// A program has a main of its own; `run` is what the four share.
 fn main(rt: HostRuntime) -> io::Result<()> {
-    let mut buffer = [0u8; 24992];
-    let mut tallies = [Tally::NONE; 4];
-    records::run::<Call>(&rt, &mut rt.stdin(), &mut buffer, &mut tallies)
+    records::run::<4, 24992, Call>(&rt, &mut rt.stdin())
 }

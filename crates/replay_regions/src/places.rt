@@ -1,25 +1,26 @@
 // Where the parts of a record stand. Its first 36 words are the call's number, the lengths of its lists (1 to 6 the blocks, in bytes; 7 and 8 the points;
-// 9 to 12 the polygons; 13 to 24 the regions; 25 the outcomes), six floats, a material, a net, the status and a value. Then the lists follow in this order.
+// 9 to 12 the polygons; 13 to 24 the regions; 25 the outcomes), six floats, a material, a net, the status, and a value, 0 where the call refuses. Then the lists follow in this order.
 ghost use Rattle.std.specs.Prelude.{◌≤◌};
 
 use arrayvec::ArrayVec;
+use openrdson_core::Blocks;
 use records::{Entry, Record};
 
-// Where block i starts, as a byte. Block 7 is past the last.
-fn block_start(record: Record<'_>, i: usize) -> usize
-    requires { i ≤ 7 }
-    ensures low { 288 ≤ result }
-    ensures high { result ≤ 6432 }
-{
-    288 + record.sum(1..i, 1024)
-}
+// The byte where the blocks start, and how many there are.
+const BLOCKS: usize = 288;
 
-// Block i, and an empty one past the record's end.
-pub fn block(record: Record<'_>, i: usize) -> &[u8]
-    requires { i ≤ 6 }
-{
-    let start = block_start(record, i);
-    record.bytes(start..start + record.length(i))
+const COUNT: usize = 6;
+
+// The record's blocks.
+pub fn blocks(record: Record<'_>) -> Blocks<'_> {
+    Blocks {
+        names: record.part(BLOCKS, 1),
+        conducting: record.part(BLOCKS, 2),
+        via: record.part(BLOCKS, 3),
+        conductors: record.part(BLOCKS, 4),
+        diffusions: record.part(BLOCKS, 5),
+        vias: record.part(BLOCKS, 6),
+    }
 }
 
 // The word where the points start: after the blocks and their padding.
@@ -27,23 +28,59 @@ fn points_place(record: Record<'_>) -> usize
     ensures low { 36 ≤ result }
     ensures high { result ≤ 804 }
 {
-    block_start(record, 7).div_ceil(8)
+    record.after_parts(BLOCKS, COUNT)
 }
 
-// The length of list i, or 16 where it is longer.
-pub fn small_at(record: Record<'_>, i: usize) -> usize
-    ensures { result ≤ 16 }
-{
-    record.at_most(i, 16)
+// The lists after the points: the polygons', the regions' and the outcomes. Each has the number of the word with its length.
+#[derive(Clone, Copy)]
+pub enum List {
+    Layers = 9,
+    Nets,
+    Starts,
+    Counts,
+    Kinds,
+    MinX,
+    MinY,
+    MaxX,
+    MaxY,
+    ZBottom,
+    ZTop,
+    RegionStarts,
+    RegionCounts,
+    Materials,
+    RegionNets,
+    Polygons,
+    Outcomes,
 }
 
-// The word where list i starts, of those after the points. List 26 is past the last.
-pub fn list_place(record: Record<'_>, i: usize) -> usize
-    requires { i ≤ 26 }
-    ensures low { 36 ≤ result }
-    ensures high { result ≤ 3124 }
-{
-    points_place(record) + record.sum(7..9, 1024) + record.sum(9..i, 16)
+impl List {
+    // The word of its length.
+    fn word(self) -> usize
+        ensures low { 9 ≤ result }
+        ensures high { result ≤ 25 }
+    {
+        self as usize
+    }
+
+    // Its length, or 16 where it is longer.
+    pub fn length(self, record: Record<'_>) -> usize
+        ensures { result ≤ 16 }
+    {
+        record.at_most(self.word(), 16)
+    }
+
+    // The word where it starts.
+    pub fn place(self, record: Record<'_>) -> usize
+        ensures low { 36 ≤ result }
+        ensures high { result ≤ 3108 }
+    {
+        points_place(record) + record.sum(7..9, 1024) + record.sum(9..self.word(), 16)
+    }
+
+    // Its entries.
+    pub fn entries<T: Entry>(self, record: Record<'_>) -> ArrayVec<T, 16> {
+        record.list(self.place(record), self.length(record))
+    }
 }
 
 // The bytes of a record with these lists.
@@ -51,7 +88,7 @@ pub fn size_of(record: Record<'_>) -> usize
     ensures low { 288 ≤ result }
     ensures high { result ≤ 24992 }
 {
-    list_place(record, 26) * 8
+    (List::Outcomes.place(record) + List::Outcomes.length(record)) * 8
 }
 
 // Whether the blocks and the points have at most 1,024 entries, and the other lists at most 16.
@@ -59,11 +96,9 @@ pub fn are_lengths_in(record: Record<'_>) -> bool {
     record.are_within(1..9, 1024) && record.are_within(9..26, 16)
 }
 
-// List i of those after the points.
-pub fn small<T: Entry>(record: Record<'_>, i: usize) -> ArrayVec<T, 16>
-    requires { i ≤ 26 }
-{
-    record.list(list_place(record, i), small_at(record, i))
+// The status and the value, the last two words before the blocks.
+pub fn answered(record: Record<'_>) -> Record<'_> {
+    Record(record.bytes(0..BLOCKS)).after(34)
 }
 
 // The points' coordinates.

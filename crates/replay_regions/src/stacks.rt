@@ -1,10 +1,8 @@
 // Stacking: the record's region lists and outcomes are those after the call.
-ghost use Rattle.std.specs.Prelude.{◌≤◌};
-
-use crate::places::{Points, block, list_place, small, small_at};
-use geometry::assemble_stack;
+use crate::places::{List, Points, answered, blocks};
+use geometry::{Polygons, RegionLists, assemble_stack};
 use openrdson_core::Refusal;
-use records::{Lent, Record};
+use records::{Answer, Lent, Record};
 
 // The region lists and the outcomes, of which the call is lent the record's lengths.
 #[derive(Drop)]
@@ -24,11 +22,9 @@ struct Lists {
     outcomes: [u8; 16],
 }
 
-// Whether a list is list i of the record, and nothing is written past its end.
-fn is_list<T: Lent>(record: Record<'_>, i: usize, list: &[T; 16]) -> bool
-    requires { i ≤ 26 }
-{
-    record.is_left(list_place(record, i), list, 0..small_at(record, i))
+// Whether the entries are the record's list, and nothing is written past its end.
+fn is_list<T: Lent>(record: Record<'_>, list: List, entries: &[T; 16]) -> bool {
+    record.is_left(list.place(record), entries, 0..list.length(record))
 }
 
 impl Lists {
@@ -51,19 +47,19 @@ impl Lists {
 
     // Whether they are the record's.
     fn are_recorded(&self, record: Record<'_>) -> bool {
-        is_list(record, 13, &self.kinds)
-            && is_list(record, 14, &self.min_x)
-            && is_list(record, 15, &self.min_y)
-            && is_list(record, 16, &self.max_x)
-            && is_list(record, 17, &self.max_y)
-            && is_list(record, 18, &self.z_bottom)
-            && is_list(record, 19, &self.z_top)
-            && is_list(record, 20, &self.starts)
-            && is_list(record, 21, &self.counts)
-            && is_list(record, 22, &self.materials)
-            && is_list(record, 23, &self.nets)
-            && is_list(record, 24, &self.polygons)
-            && is_list(record, 25, &self.outcomes)
+        is_list(record, List::Kinds, &self.kinds)
+            && is_list(record, List::MinX, &self.min_x)
+            && is_list(record, List::MinY, &self.min_y)
+            && is_list(record, List::MaxX, &self.max_x)
+            && is_list(record, List::MaxY, &self.max_y)
+            && is_list(record, List::ZBottom, &self.z_bottom)
+            && is_list(record, List::ZTop, &self.z_top)
+            && is_list(record, List::RegionStarts, &self.starts)
+            && is_list(record, List::RegionCounts, &self.counts)
+            && is_list(record, List::Materials, &self.materials)
+            && is_list(record, List::RegionNets, &self.nets)
+            && is_list(record, List::Polygons, &self.polygons)
+            && is_list(record, List::Outcomes, &self.outcomes)
     }
 }
 
@@ -71,46 +67,39 @@ impl Lists {
 fn stacked(record: Record<'_>) -> (Result<usize, Refusal>, Lists) {
     let points = Points::of(record);
     let mut to = Lists::BEFORE;
+    let mut regions = RegionLists {
+        kinds: &mut to.kinds[..List::Kinds.length(record)],
+        min_x: &mut to.min_x[..List::MinX.length(record)],
+        min_y: &mut to.min_y[..List::MinY.length(record)],
+        max_x: &mut to.max_x[..List::MaxX.length(record)],
+        max_y: &mut to.max_y[..List::MaxY.length(record)],
+        z_bottom: &mut to.z_bottom[..List::ZBottom.length(record)],
+        z_top: &mut to.z_top[..List::ZTop.length(record)],
+        starts: &mut to.starts[..List::RegionStarts.length(record)],
+        counts: &mut to.counts[..List::RegionCounts.length(record)],
+        materials: &mut to.materials[..List::Materials.length(record)],
+        nets: &mut to.nets[..List::RegionNets.length(record)],
+        polygons: &mut to.polygons[..List::Polygons.length(record)],
+    };
+    let outcomes = &mut to.outcomes[..List::Outcomes.length(record)];
     let stacked = assemble_stack(
-        block(record, 1),
-        block(record, 2),
-        block(record, 3),
-        block(record, 4),
-        block(record, 5),
-        block(record, 6),
-        &small(record, 9),
-        &small(record, 10),
-        &small(record, 11),
-        &small(record, 12),
-        &points.xs,
-        &points.ys,
-        &mut to.kinds[..small_at(record, 13)],
-        &mut to.min_x[..small_at(record, 14)],
-        &mut to.min_y[..small_at(record, 15)],
-        &mut to.max_x[..small_at(record, 16)],
-        &mut to.max_y[..small_at(record, 17)],
-        &mut to.z_bottom[..small_at(record, 18)],
-        &mut to.z_top[..small_at(record, 19)],
-        &mut to.starts[..small_at(record, 20)],
-        &mut to.counts[..small_at(record, 21)],
-        &mut to.materials[..small_at(record, 22)],
-        &mut to.nets[..small_at(record, 23)],
-        &mut to.polygons[..small_at(record, 24)],
-        &mut to.outcomes[..small_at(record, 25)],
+        blocks(record),
+        Polygons {
+            layers: &List::Layers.entries(record),
+            nets: &List::Nets.entries(record),
+            starts: &List::Starts.entries(record),
+            counts: &List::Counts.entries(record),
+            xs: &points.xs,
+            ys: &points.ys,
+        },
+        &mut regions,
+        outcomes,
     );
     (stacked, to)
-}
-
-// Whether the status and the number of regions are the record's.
-fn is_recorded(record: Record<'_>, stacked: Result<usize, Refusal>) -> bool {
-    match stacked {
-        Ok(rows) => record.after(34).begins(&[0, rows as u64]),
-        Err(why) => record.after(34).begins(&[u64::from(u32::from(why)), 0]),
-    }
 }
 
 // Whether the call answers what the record says, and leaves the lists as it says.
 pub fn is_stack_answered(record: Record<'_>) -> bool {
     let (stacked, lists) = stacked(record);
-    lists.are_recorded(record) && is_recorded(record, stacked)
+    lists.are_recorded(record) && Answer::from(stacked).is_recorded(answered(record))
 }

@@ -1,25 +1,27 @@
 // The total volume of the record's region lists.
-use crate::places::{Points, small};
-use geometry::total_volume;
+use crate::places::{List, Points, answered};
+use geometry::{Regions, total_volume};
 use openrdson_core::Refusal;
-use records::{Entry, Record};
+use records::{Answer, Record};
 
 // The volume of the record's regions.
 fn volume(record: Record<'_>) -> Result<f64, Refusal> {
     let points = Points::of(record);
     total_volume(
-        &small(record, 13),
-        &small(record, 14),
-        &small(record, 15),
-        &small(record, 16),
-        &small(record, 17),
-        &small(record, 18),
-        &small(record, 19),
-        &small(record, 20),
-        &small(record, 21),
-        &small(record, 22),
-        &small(record, 23),
-        &small(record, 24),
+        Regions {
+            kinds: &List::Kinds.entries(record),
+            min_x: &List::MinX.entries(record),
+            min_y: &List::MinY.entries(record),
+            max_x: &List::MaxX.entries(record),
+            max_y: &List::MaxY.entries(record),
+            z_bottom: &List::ZBottom.entries(record),
+            z_top: &List::ZTop.entries(record),
+            starts: &List::RegionStarts.entries(record),
+            counts: &List::RegionCounts.entries(record),
+            materials: &List::Materials.entries(record),
+            nets: &List::RegionNets.entries(record),
+            polygons: &List::Polygons.entries(record),
+        },
         &points.xs,
         &points.ys,
     )
@@ -27,9 +29,5 @@ fn volume(record: Record<'_>) -> Result<f64, Refusal> {
 
 // Whether the call answers what the record says.
 pub fn is_total_answered(record: Record<'_>) -> bool {
-    let status = record.word(34);
-    match volume(record) {
-        Ok(x) => status == 0 && x.word() == record.word(35),
-        Err(why) => status == u64::from(u32::from(why)),
-    }
+    Answer::from(volume(record)).is_recorded(answered(record))
 }

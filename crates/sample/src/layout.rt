@@ -1,6 +1,8 @@
 // The switch's polygons, over an active area of 8 by 8 micrometres. Each is a part of the point lists, and two may be the same part: a via is
 // drawn as the contact below it.
 
+use geometry::Polygons;
+
 // Those of six rectangles, the gate, the sliver, the pad and the shield.
 pub const POINTS: usize = 6 * 4 + 6 + 3 + 8 + 12;
 
@@ -57,10 +59,10 @@ fn polygons() -> [Polygon; POLYGONS] {
 // What stacking takes of the polygons.
 #[derive(Drop)]
 pub struct Layout {
-    pub layers: [i16; POLYGONS],
-    pub nets: [u32; POLYGONS],
-    pub starts: [u32; POLYGONS],
-    pub counts: [u32; POLYGONS],
+    layers: [i16; POLYGONS],
+    nets: [u32; POLYGONS],
+    starts: [u32; POLYGONS],
+    counts: [u32; POLYGONS],
 }
 
 impl Layout {
@@ -70,6 +72,18 @@ impl Layout {
             nets: polygons().map(|p| p.net),
             starts: polygons().map(|p| p.start),
             counts: polygons().map(|p| p.count),
+        }
+    }
+
+    // Beside the points that they are parts of.
+    pub fn polygons<'a>(&'a self, points: &'a Points) -> Polygons<'a> {
+        Polygons {
+            layers: &self.layers,
+            nets: &self.nets,
+            starts: &self.starts,
+            counts: &self.counts,
+            xs: &points.xs,
+            ys: &points.ys,
         }
     }
 }

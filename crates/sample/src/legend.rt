@@ -46,20 +46,15 @@ pub fn layers() -> [Layer; 6] {
 // The row of what is refused.
 const REFUSED: u32 = 4500;
 
-// How a region is painted: in its layer's colour, or hatched where it was refused.
+// How a region is painted: in its layer's colour, or hatched where it has none since it was refused.
 #[derive(Clone, Copy)]
-pub enum Paint {
-    Colour(&'static str),
-    Hatch,
-}
+pub struct Paint(pub Option<&'static str>);
 
 impl fmt::Display for Paint {
     fn fmt<W: fmt::Write>(&self, f: &mut fmt::Formatter<W>) -> fmt::Result {
-        match *self {
-            Paint::Colour(colour) => {
-                write!(f, "fill-opacity='.35' fill='{colour}' stroke='{colour}'")
-            }
-            Paint::Hatch => f.write_str("fill='url(#hatch)' stroke='#c62828'"),
+        match self.0 {
+            Some(colour) => write!(f, "fill-opacity='.35' fill='{colour}' stroke='{colour}'"),
+            None => f.write_str("fill='url(#hatch)' stroke='#c62828'"),
         }
     }
 }
@@ -98,9 +93,9 @@ fn put_row(
 pub fn put_legend(out: &mut impl Write) -> io::Result<()> {
     writeln!(out, "<text x='9900' y='300'>material</text>")?;
     for layer in layers() {
-        put_row(out, layer.row, Paint::Colour(layer.colour), layer)?;
+        put_row(out, layer.row, Paint(Some(layer.colour)), layer)?;
     }
-    put_row(out, REFUSED, Paint::Hatch, "refused")?;
+    put_row(out, REFUSED, Paint(None), "refused")?;
     writeln!(
         out,
         "<path d='M9900 10900h1000' stroke='#2c3e50' stroke-width='60'/>"

@@ -17,7 +17,7 @@ use files::{are_two_or_none, write_files};
 use layout::Points;
 use mesh::Mesh;
 use regions::Regions;
-use report::{print_mesh, print_outcomes, print_refusal, print_total};
+use report::{Refused, print_mesh, print_outcomes, print_total};
 use std::io;
 
 fn main(rt: HostRuntime) -> io::Result<()> {
@@ -27,7 +27,7 @@ fn main(rt: HostRuntime) -> io::Result<()> {
     let points = Points::of_switch();
     let regions = match Regions::of_switch(&points) {
         Ok(regions) => regions,
-        Err(why) => return print_refusal(&rt, "stacking", why),
+        Err(why) => return println!(&rt; "stacking {}", Refused(why)),
     };
     print_outcomes(&rt, &regions)?;
     match Mesh::of(&points, &regions) {
@@ -35,7 +35,7 @@ fn main(rt: HostRuntime) -> io::Result<()> {
             print_mesh(&rt, &points, &regions, &mesh)?;
             write_files(&rt, &points, &regions, &mesh);
         }
-        Err(why) => print_refusal(&rt, "meshing", why)?,
+        Err(why) => println!(&rt; "meshing {}", Refused(why))?,
     }
     print_total(&rt, &points, &regions)
 }

@@ -2,8 +2,8 @@
 use crate::layout::{Points, REGIONS};
 use crate::regions::Regions;
 use crate::stack::CONTACT;
-use meshing::{MeshConfig, mesh_model_with_options};
-use openrdson_core::{Counts, ElementType, Point3, Refusal};
+use meshing::{MeshConfig, Overrides, mesh_model_with_options};
+use openrdson_core::{Counts, ElementType, MeshLists, Point3, Refusal};
 
 // How many nodes the mesh has: a box of a by b by c cells (a + 1)(b + 1)(c + 1), a clipped prism two a point, a scanned one eight a quad.
 const NODES: usize = 5 * 5 * 2 // active area
@@ -73,35 +73,29 @@ impl Mesh {
     // Meshes the regions in cells of 2 by 2 by 0.5 micrometres, the contacts in finer ones.
     pub fn of(points: &Points, regions: &Regions) -> Result<Self, Refusal> {
         let mut to = Self::EMPTY;
-        let meshed = mesh_model_with_options(
-            &regions.kinds,
-            &regions.min_x,
-            &regions.min_y,
-            &regions.max_x,
-            &regions.max_y,
-            &regions.z_bottom,
-            &regions.z_top,
-            &regions.starts,
-            &regions.counts,
-            &regions.materials,
-            &regions.nets,
-            &regions.polygons,
+        let overrides = Overrides {
+            materials: &[CONTACT],
+            laterals: &[0.5e-6],
+            verticals: &[0.25e-6],
+        };
+        let mut lists = MeshLists {
+            xs: &mut to.xs,
+            ys: &mut to.ys,
+            zs: &mut to.zs,
+            kinds: &mut to.kinds,
+            places: &mut to.places,
+            regions: &mut to.regions,
+        };
+        let counts = mesh_model_with_options(
+            regions.lent(),
             &points.xs,
             &points.ys,
-            &[CONTACT],
-            &[0.5e-6],
-            &[0.25e-6],
+            overrides,
             CONFIG,
             to.counts,
-            &mut to.xs,
-            &mut to.ys,
-            &mut to.zs,
-            &mut to.kinds,
-            &mut to.places,
-            &mut to.regions,
+            &mut lists,
             &mut to.diagnostics,
-        );
-        let counts = meshed?;
+        )?;
         Ok(Self { counts, ..to })
     }
 

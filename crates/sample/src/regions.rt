@@ -1,9 +1,9 @@
 // The switch's regions: stacking them, and each by its number. The lists are as long as there are regions, and are lent whole.
-ghost use Rattle.std.specs.Prelude.{◌<◌};
+ghost use Rattle.std.specs.Prelude.{◌<◌, ◌≡◌, length};
 
-use crate::layout::{Layout, POLYGONS, Points, REGIONS};
-use crate::stack;
-use geometry::{assemble_stack, total_volume};
+use crate::layout::{Layout, POINTS, POLYGONS, Points, REGIONS};
+use crate::stack::Stack;
+use geometry::{RegionLists, Regions as Lists, assemble_stack, total_volume};
 use openrdson_core::{Refusal, Solid};
 
 #[derive(Drop)]
@@ -43,60 +43,58 @@ impl Regions {
 
     // Stacks the switch.
     pub fn of_switch(points: &Points) -> Result<Self, Refusal> {
+        let stack = Stack::of_switch();
         let layout = Layout::of_switch();
         let mut to = Self::NONE;
+        let mut lists = RegionLists {
+            kinds: &mut to.kinds,
+            min_x: &mut to.min_x,
+            min_y: &mut to.min_y,
+            max_x: &mut to.max_x,
+            max_y: &mut to.max_y,
+            z_bottom: &mut to.z_bottom,
+            z_top: &mut to.z_top,
+            starts: &mut to.starts,
+            counts: &mut to.counts,
+            materials: &mut to.materials,
+            nets: &mut to.nets,
+            polygons: &mut to.polygons,
+        };
         let stacked = assemble_stack(
-            &stack::layer_names(),
-            &stack::conducting(),
-            &stack::via(),
-            &stack::conductors(),
-            &stack::diffusions(),
-            &stack::vias(),
-            &layout.layers,
-            &layout.nets,
-            &layout.starts,
-            &layout.counts,
-            &points.xs,
-            &points.ys,
-            &mut to.kinds,
-            &mut to.min_x,
-            &mut to.min_y,
-            &mut to.max_x,
-            &mut to.max_y,
-            &mut to.z_bottom,
-            &mut to.z_top,
-            &mut to.starts,
-            &mut to.counts,
-            &mut to.materials,
-            &mut to.nets,
-            &mut to.polygons,
+            stack.blocks(),
+            layout.polygons(points),
+            &mut lists,
             &mut to.outcomes,
         );
         stacked.map(|_| to)
     }
 
-    // The solid of region i.
-    pub fn solid(&self, i: usize) -> Solid
+    // The lists, lent to be read.
+    pub fn lent(&self) -> Lists<'_>
+        ensures { length result.kinds.now ≡ 12 }
+    {
+        Lists {
+            kinds: &self.kinds,
+            min_x: &self.min_x,
+            min_y: &self.min_y,
+            max_x: &self.max_x,
+            max_y: &self.max_y,
+            z_bottom: &self.z_bottom,
+            z_top: &self.z_top,
+            starts: &self.starts,
+            counts: &self.counts,
+            materials: &self.materials,
+            nets: &self.nets,
+            polygons: &self.polygons,
+        }
+    }
+
+    // The solid of region i, if the lists have one there.
+    pub fn solid(&self, i: usize) -> Option<Solid>
         requires { i < 12 }
     {
-        let z_bottom = self.z_bottom[i];
-        let z_top = self.z_top[i];
-        if self.kinds[i] == 0 {
-            return Solid::Box {
-                min_x: self.min_x[i],
-                min_y: self.min_y[i],
-                max_x: self.max_x[i],
-                max_y: self.max_y[i],
-                z_bottom,
-                z_top,
-            };
-        }
-        Solid::Prism {
-            z_bottom,
-            z_top,
-            start: self.starts[i],
-            count: self.counts[i],
-        }
+        let region = self.lent().checked().ok()?.region(POINTS, i).ok()?;
+        Some(region.solid)
     }
 
     // A region's material, and 0 where there is no such region.
@@ -106,21 +104,6 @@ impl Regions {
 
     // The volume of all.
     pub fn volume(&self, points: &Points) -> Result<f64, Refusal> {
-        total_volume(
-            &self.kinds,
-            &self.min_x,
-            &self.min_y,
-            &self.max_x,
-            &self.max_y,
-            &self.z_bottom,
-            &self.z_top,
-            &self.starts,
-            &self.counts,
-            &self.materials,
-            &self.nets,
-            &self.polygons,
-            &points.xs,
-            &points.ys,
-        )
+        total_volume(self.lent(), &points.xs, &points.ys)
     }
 }

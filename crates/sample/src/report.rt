@@ -1,4 +1,6 @@
 // The lines that are printed.
+ghost use Rattle.std.specs.Prelude.{◌<◌};
+
 use crate::layout::{Points, REGIONS};
 use crate::mesh::Mesh;
 use crate::regions::Regions;
@@ -16,24 +18,33 @@ impl fmt::Display for Volume {
     }
 }
 
-pub fn print_refusal(rt: &impl Print, label: &str, why: Refusal) -> io::Result<()> {
-    let number = u32::from(why);
-    println!(rt; "{label} refused with {number}")
+// Why a step was turned down.
+#[derive(Clone, Copy)]
+pub struct Refused(pub Refusal);
+
+impl fmt::Display for Refused {
+    fn fmt<W: fmt::Write>(&self, f: &mut fmt::Formatter<W>) -> fmt::Result {
+        let number = u32::from(self.0);
+        write!(f, "refused with {number}")
+    }
 }
 
-// The rest of a line.
-fn print_measured(rt: &impl Print, label: &str, measured: Result<f64, Refusal>) -> io::Result<()> {
-    match measured {
-        Ok(volume) => {
-            let volume = Volume(volume);
-            println!(rt; "{label}{volume}")
+// A volume after its label, or why there is none.
+#[derive(Clone, Copy)]
+struct Measured(&'static str, Result<f64, Refusal>);
+
+impl fmt::Display for Measured {
+    fn fmt<W: fmt::Write>(&self, f: &mut fmt::Formatter<W>) -> fmt::Result {
+        match self.1 {
+            Ok(volume) => write!(f, "{}{}", self.0, Volume(volume)),
+            Err(why) => write!(f, "volume {}", Refused(why)),
         }
-        Err(why) => print_refusal(rt, "volume", why),
     }
 }
 
 pub fn print_total(rt: &impl Print, points: &Points, regions: &Regions) -> io::Result<()> {
-    print_measured(rt, "total volume: ", regions.volume(points))
+    let total = Measured("total volume: ", regions.volume(points));
+    println!(rt; "{total}")
 }
 
 // What became of each polygon.
@@ -52,6 +63,31 @@ pub fn print_outcomes(rt: &impl Print, regions: &Regions) -> io::Result<()> {
     Ok(())
 }
 
+// The line of region i.
+fn print_region(
+    rt: &impl Print,
+    points: &Points,
+    regions: &Regions,
+    mesh: &Mesh,
+    i: usize,
+    solid: Solid,
+) -> io::Result<()>
+    requires { i < 12 }
+{
+    let polygon = regions.polygons[i];
+    let shape = match solid {
+        Solid::Box { .. } => "box",
+        Solid::Prism { .. } => "prism",
+    };
+    let material = regions.materials[i];
+    let diagnostic = mesh.diagnostics[i];
+    let elements = mesh.elements_of(i);
+    print!(rt; "region {i} of polygon {polygon}: {shape}, material {material}")?;
+    print!(rt; ", diagnostic {diagnostic}, elements {elements}")?;
+    let volume = Measured(", volume ", solid.volume(&points.xs, &points.ys));
+    println!(rt; "{volume}")
+}
+
 // A line for each region, and one for the mesh.
 pub fn print_mesh(
     rt: &impl Print,
@@ -60,19 +96,9 @@ pub fn print_mesh(
     mesh: &Mesh,
 ) -> io::Result<()> {
     for i in 0..REGIONS {
-        let solid = regions.solid(i);
-        let polygon = regions.polygons[i];
-        let shape = if matches!(solid, Solid::Box { .. }) {
-            "box"
-        } else {
-            "prism"
-        };
-        let material = regions.materials[i];
-        let diagnostic = mesh.diagnostics[i];
-        let elements = mesh.elements_of(i);
-        print!(rt; "region {i} of polygon {polygon}: {shape}, material {material}")?;
-        print!(rt; ", diagnostic {diagnostic}, elements {elements}")?;
-        print_measured(rt, ", volume ", solid.volume(&points.xs, &points.ys))?;
+        if let Some(solid) = regions.solid(i) {
+            print_region(rt, points, regions, mesh, i, solid)?;
+        }
     }
     println!(rt;
         "mesh: {} nodes, {} elements",

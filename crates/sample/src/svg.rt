@@ -96,18 +96,14 @@ fn put_elements(out: &mut impl Write, mesh: &Mesh, region: usize, z: f64) -> io:
 fn put_region(
     out: &mut impl Write,
     points: &Points,
-    regions: &Regions,
     mesh: &Mesh,
     layer: Layer,
     i: usize,
+    solid: Solid,
 ) -> io::Result<()>
     requires { i < 12 }
 {
-    let paint = match mesh.diagnostics[i] {
-        0 => Paint::Colour(layer.colour),
-        _ => Paint::Hatch,
-    };
-    let solid = regions.solid(i);
+    let paint = Paint((mesh.diagnostics[i] == 0).then_some(layer.colour));
     write!(
         out,
         "<g id='region-{i}' {paint}><path stroke-width='45' d='"
@@ -128,8 +124,10 @@ pub fn put_plan(
     put_head(out)?;
     for layer in layers() {
         for i in 0..REGIONS {
-            if regions.materials[i] == layer.material {
-                put_region(out, points, regions, mesh, layer, i)?;
+            if regions.materials[i] == layer.material
+                && let Some(solid) = regions.solid(i)
+            {
+                put_region(out, points, mesh, layer, i, solid)?;
             }
         }
     }

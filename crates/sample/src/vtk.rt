@@ -9,12 +9,17 @@ use std::io;
 use std::io::Write;
 
 // VTK's number of a kind.
-fn cell_type(kind: ElementType) -> u32 {
-    match kind {
-        ElementType::Tet => 10,
-        ElementType::Hex => 12,
-        ElementType::Prism => 13,
-        ElementType::Pyramid => 14,
+#[derive(Clone, Copy)]
+struct CellType(u32);
+
+impl From<ElementType> for CellType {
+    fn from(kind: ElementType) -> Self {
+        Self(match kind {
+            ElementType::Tet => 10,
+            ElementType::Hex => 12,
+            ElementType::Prism => 13,
+            ElementType::Pyramid => 14,
+        })
     }
 }
 
@@ -105,11 +110,9 @@ pub fn put_mesh(out: &mut impl Write, regions: &Regions, mesh: &Mesh) -> io::Res
     write!(out, "\nCELLS {elements} {numbers}\n")?;
     put_elements(out, mesh, |out, element| put_cell(out, element))?;
     write!(out, "\nCELL_TYPES {elements}\n")?;
-    put_elements(
-        out,
-        mesh,
-        |out, element| put_int(out, cell_type(element.kind)),
-    )?;
+    put_elements(out, mesh, |out, element| {
+        put_int(out, CellType::from(element.kind).0)
+    })?;
     write!(
         out,
         "\nCELL_DATA {elements}\nSCALARS material int 1\nLOOKUP_TABLE default\n"

@@ -1,8 +1,8 @@
-// A box in a line.
+// A box, and two heights, in a line.
 ghost use Rattle.std.specs.Prelude.{◌≡◌};
 ghost use Rattle.openrdson_core.specs.Bounds.{the_bbox};
 
-use openrdson_core::Bbox;
+use openrdson_core::{Bbox, Heights};
 
 // The box from (x0, y0) to (x1, y1).
 pub fn box_of(x0: f64, y0: f64, x1: f64, y1: f64) -> Bbox
@@ -14,4 +14,11 @@ pub fn box_of(x0: f64, y0: f64, x1: f64, y1: f64) -> Bbox
         max_x: x1,
         max_y: y1,
     }
+}
+
+pub fn heights_of(bottom: f64, top: f64) -> Heights
+    ensures bottom { result.bottom ≡ bottom }
+    ensures top { result.top ≡ top }
+{
+    Heights { bottom, top }
 }

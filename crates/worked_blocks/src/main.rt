@@ -3,6 +3,7 @@
 
 use check::expect;
 use openrdson_core::{Refusal, check_blocks, is_marker, look_up};
+use worked::map_of;
 
 fn markers() {
     expect(is_marker(b"seed_x"));
@@ -28,15 +29,8 @@ fn empties() {
 fn lookups() {
     let empty = [0, 0];
     let damaged = [1, 0];
-    let mut first = [0; 66];
-    first[0] = 1;
-    first[2] = 97;
-    first[34] = 98;
-    let mut second = [0; 66];
-    second[0] = 1;
-    second[2] = 97;
-    second[34] = 99;
-    second[35] = 99;
+    let first = map_of!(b'a', b'b', 0);
+    let second = map_of!(b'a', b'c', b'c');
     expect(look_up(&first, &empty, b"a") == Ok(true));
     expect(look_up(&empty, &second, b"a") == Ok(true));
     expect(look_up(&first, &empty, b"b") == Ok(false));

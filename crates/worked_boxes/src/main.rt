@@ -4,7 +4,8 @@
 use check::expect;
 use meshing::{MeshConfig, axis_coordinate, cell_count, mesh_box};
 use openrdson_core::{Bbox, Material, Refusal};
-use worked_meshed::{EMPTY, UNIT_CELLS, counts_of};
+use worked::heights_of;
+use worked_meshed::{EMPTY, UNIT_CELLS, counts_of, nines};
 
 fn cells() {
     expect(cell_count(2.0, 1.0) == Ok(2));
@@ -22,31 +23,20 @@ fn hexes() {
         max_x: 2.0,
         max_y: 1.0,
     };
-    let mut xs = [9.0; 12];
-    let mut ys = [9.0; 12];
-    let mut zs = [9.0; 12];
-    let mut kinds = [9; 2];
-    let mut places = [9; 16];
-    let mut regions = [9; 2];
+    let mut lists = nines!(12, 2, 16);
     let meshed = mesh_box(
         bounds,
-        0.0,
-        1.0,
+        heights_of(0.0, 1.0),
         Material(1),
         7,
         UNIT_CELLS,
         EMPTY,
-        &mut xs,
-        &mut ys,
-        &mut zs,
-        &mut kinds,
-        &mut places,
-        &mut regions,
+        &mut lists,
     );
     expect(meshed == Ok(counts_of(12, 2)));
-    expect((xs[1] == 1.0) & (xs[2] == 2.0) & (xs[3] == 0.0));
-    expect((places[2] == 4) & (places[3] == 3) & (places[8] == 1));
-    expect((kinds[1] == 1) & (regions[1] == 7));
+    expect((lists.xs[1] == 1.0) & (lists.xs[2] == 2.0) & (lists.xs[3] == 0.0));
+    expect((lists.places[2] == 4) & (lists.places[3] == 3) & (lists.places[8] == 1));
+    expect((lists.kinds[1] == 1) & (lists.regions[1] == 7));
 }
 
 // 1e-6 across and 0.1e-6 in height.

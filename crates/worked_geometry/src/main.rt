@@ -9,10 +9,12 @@ use geometry::{extrude_box, extrude_polygon};
 use openrdson_core::{Bbox, Material, Refusal, Solid};
 use regions::region_of;
 use rows::total_of_two;
+use worked::heights_of;
 
 fn bow_tie() {
     let xs = [0.0, 1.0, 1.0, 0.0];
     let ys = [0.0, 1.0, 0.0, 1.0];
+    let heights = heights_of(0.0, 3.0);
     let solid = Solid::Box {
         min_x: 0.0,
         min_y: 0.0,
@@ -22,9 +24,9 @@ fn bow_tie() {
         z_top: 3.0,
     };
     let expected = region_of(768, solid);
-    let built = extrude_polygon(&xs, &ys, 0.0, 3.0, Material(768), 5);
+    let built = extrude_polygon(&xs, &ys, heights, Material(768), 5);
     expect(built == Ok(expected));
-    let past = extrude_polygon(&xs, &ys, 0.0, 3.0, Material(769), 5);
+    let past = extrude_polygon(&xs, &ys, heights, Material(769), 5);
     expect(past == Err(Refusal::OutsideList));
 }
 
@@ -38,9 +40,9 @@ fn triangle() {
         count: 3,
     };
     let expected = region_of(0, solid);
-    let built = extrude_polygon(&xs, &ys, 2.0, 0.0, Material(0), 5);
+    let built = extrude_polygon(&xs, &ys, heights_of(2.0, 0.0), Material(0), 5);
     expect(built == Ok(expected));
-    let no_top = extrude_polygon(&xs, &ys, 2.0, 0.0 / 0.0, Material(769), 5);
+    let no_top = extrude_polygon(&xs, &ys, heights_of(2.0, 0.0 / 0.0), Material(769), 5);
     expect(no_top == Err(Refusal::NumberOutOfRange));
 }
 
@@ -60,11 +62,11 @@ fn boxes() {
         z_top: 0.0,
     };
     let expected = region_of(768, solid);
-    let built = extrude_box(sides, 1.0, 0.0, Material(768), 5);
+    let built = extrude_box(sides, heights_of(1.0, 0.0), Material(768), 5);
     expect(built == Ok(expected));
-    let past = extrude_box(sides, 1.0, 0.0, Material(769), 5);
+    let past = extrude_box(sides, heights_of(1.0, 0.0), Material(769), 5);
     expect(past == Err(Refusal::OutsideList));
-    let endless = extrude_box(sides, 1.0 / 0.0, 0.0, Material(769), 5);
+    let endless = extrude_box(sides, heights_of(1.0 / 0.0, 0.0), Material(769), 5);
     expect(endless == Err(Refusal::NumberOutOfRange));
 }
 

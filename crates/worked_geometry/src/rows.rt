@@ -4,7 +4,7 @@ ghost use Rattle.openrdson_core.specs.Answers.{answer};
 ghost use Rattle.geometry.specs.Volumes.{total_volume};
 ghost use Rattle.worked_geometry.specs.Expected.{two_rows};
 
-use geometry::{NO_POLYGON, total_volume};
+use geometry::{NO_POLYGON, Regions, total_volume};
 use openrdson_core::Refusal;
 
 // Of these kinds and materials: the box 0..2 by 0..1 from 0 to `top`, whose start and count are the largest numbers, and a prism from 0 to 2 over points 1 to 3,
@@ -20,16 +20,19 @@ pub fn total_of_two(
 {
     let not_a_number = 0.0 / 0.0;
     let low = [0.0, not_a_number];
-    let max_x = [2.0, not_a_number];
-    let max_y = [1.0, not_a_number];
-    let z_bottom = [0.0, 0.0];
-    let z_top = [top, 2.0];
-    let starts = [NO_POLYGON, 1];
-    let counts = [NO_POLYGON, 3];
-    let nets = [0, 0];
-    let polygons = [NO_POLYGON, 0];
-    total_volume(
-        kinds, &low, &low, &max_x, &max_y, &z_bottom, &z_top, &starts, &counts, materials, &nets,
-        &polygons, xs, ys,
-    )
+    let regions = Regions {
+        kinds,
+        min_x: &low,
+        min_y: &low,
+        max_x: &[2.0, not_a_number],
+        max_y: &[1.0, not_a_number],
+        z_bottom: &[0.0, 0.0],
+        z_top: &[top, 2.0],
+        starts: &[NO_POLYGON, 1],
+        counts: &[NO_POLYGON, 3],
+        materials,
+        nets: &[0, 0],
+        polygons: &[NO_POLYGON, 0],
+    };
+    total_volume(regions, xs, ys)
 }

@@ -1,10 +1,10 @@
-// Meshes: the four kinds, lists of a tet and a hex, the room in a list of eight, and a tet beside a pyramid that has one place too many.
+// Meshes: the four kinds, lists of a tet and a hex, the room in a list of eight, a tet beside a pyramid that has one place too many, and what lists hold.
 #![tactic(auto, unfolding(worked::proofs::OnShapes::on_meshes))]
 
 use check::expect;
 use openrdson_core::{
-    Counts, ElementType, Point3, counts_within, element_inside, element_sound, has_room,
-    lists_parallel,
+    Counts, ElementType, Mesh, MeshLists, Point3, UNUSED, UnknownKind, counts_within, has_room,
+    lists_parallel, used_places,
 };
 
 fn kinds() {
@@ -18,7 +18,7 @@ fn kinds() {
     expect(ElementType::Pyramid.node_count() == 5);
     expect(ElementType::try_from(2) == Ok(ElementType::Prism));
     expect(ElementType::try_from(3) == Ok(ElementType::Pyramid));
-    expect(ElementType::try_from(4).is_err());
+    expect(ElementType::try_from(4) == Err(UnknownKind(4)));
 }
 
 fn lengths() {
@@ -45,15 +45,50 @@ fn points() {
 }
 
 fn elements() {
-    let kinds = [0, 3];
-    let places = [
-        0, 1, 2, 3, 4294967295, 4294967295, 4294967295, 4294967295, 0, 1, 2, 3, 4, 5, 4294967295,
-        4294967295,
-    ];
-    expect(element_sound(&kinds, &places, 0));
-    expect(!element_sound(&kinds, &places, 1));
-    expect(element_inside(&kinds, &places, 0, 4));
-    expect(!element_inside(&kinds, &places, 0, 3));
+    let mesh = Mesh {
+        xs: &[0.0; 4],
+        ys: &[0.0; 4],
+        zs: &[0.0; 4],
+        kinds: &[0, 3],
+        places: &[
+            0, 1, 2, 3, UNUSED, UNUSED, UNUSED, UNUSED, 0, 1, 2, 3, 4, 5, UNUSED, UNUSED,
+        ],
+        regions: &[7, 7],
+    };
+    expect(mesh.is_parallel());
+    let tet = mesh.element(0);
+    expect(tet.is_sound());
+    expect(tet.is_inside(4));
+    expect(!tet.is_inside(3));
+    expect(tet.is_ok(4));
+    let pyramid = mesh.element(1);
+    expect(!pyramid.is_sound());
+    expect(pyramid.is_inside(5));
+    expect(!pyramid.is_ok(5));
+    expect(used_places(3) == Some(5));
+    expect(used_places(4) == None);
+}
+
+fn written() {
+    let lists = MeshLists {
+        xs: &mut [0.0; 4],
+        ys: &mut [0.0; 4],
+        zs: &mut [0.0; 4],
+        kinds: &mut [0; 2],
+        places: &mut [0; 16],
+        regions: &mut [0; 2],
+    };
+    expect(lists.is_parallel());
+    let full = Counts {
+        nodes: 4,
+        elements: 2,
+    };
+    expect(lists.holds(full));
+    let past = Counts {
+        nodes: 4,
+        elements: 3,
+    };
+    expect(!lists.holds(past));
 }
 
 fn main() {
@@ -61,4 +96,5 @@ fn main() {
     lengths();
     points();
     elements();
+    written();
 }

@@ -1,5 +1,7 @@
-// What the programs of meshes share: counts, and cells of 1.
+// What the programs of meshes share: counts, cells of 1, and the lists of a mesh.
 #![tactic(auto)]
+
+mod meshed;
 
 ghost use Rattle.std.specs.Prelude.{◌≡◌};
 ghost use Rattle.openrdson_core.specs.Mesh.{the_counts};

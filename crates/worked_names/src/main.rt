@@ -2,8 +2,8 @@
 #![tactic(auto, unfolding(worked::proofs::OnShapes::on_names))]
 
 use check::expect;
-use openrdson_core::{Refusal, layer_name, physical_name, via_layers};
-use worked::{layer_name_is, place_is, place_starts, via_is};
+use openrdson_core::{LayerMap, LayerNames, Refusal, layer_name, physical_name, via_layers};
+use worked::{layer_name_is, map_of, place_is, place_starts, via_is};
 
 fn layers() {
     let damaged = [1, 0];
@@ -27,15 +27,8 @@ fn vias() {
 
 fn places() {
     let empty = [0, 0];
-    let mut first = [0; 66];
-    first[0] = 1;
-    first[2] = 97;
-    first[34] = 98;
-    let mut second = [0; 66];
-    second[0] = 1;
-    second[2] = 97;
-    second[34] = 99;
-    second[35] = 99;
+    let first = map_of!(b'a', b'b', 0);
+    let second = map_of!(b'a', b'c', b'c');
     expect(place_is(&first, &second, b"a", b"b"));
     expect(place_is(&empty, &second, b"a", b"cc"));
     expect(physical_name(&first, &second, b"a") == b"b".as_slice());
@@ -55,9 +48,37 @@ fn starts() {
     expect(place_starts(&empty, &twice, b"a", 66));
 }
 
+// The same of checked blocks.
+fn checked() {
+    let damaged = [1, 0];
+    expect(LayerNames::checked(&damaged).is_err());
+    expect(LayerMap::checked(&damaged).is_err());
+    let mut names = [0; 36];
+    names[0] = 1;
+    names[2] = 254;
+    names[3] = 255;
+    names[4] = 97;
+    if let Ok(layers) = LayerNames::checked(&names) {
+        expect(layers.rows() == 1);
+        expect(layers.find(-2) == Some(0));
+        expect(layers.find(-3) == None);
+    }
+    let mut twice = [0; 130];
+    twice[0] = 2;
+    twice[2] = 97;
+    twice[34] = 98;
+    twice[66] = 99;
+    twice[98] = 99;
+    if let Ok(map) = LayerMap::checked(&twice) {
+        expect(map.find(b"b").is_some());
+        expect(map.find(b"c").is_none());
+    }
+}
+
 fn main() {
     layers();
     vias();
     places();
     starts();
+    checked();
 }

@@ -1,10 +1,13 @@
 // Cleaning and triangulating document 01's shapes: a square, a triangle that turns clockwise, four points on a line, and a ring with close points.
 #![tactic(auto, unfolding(crate::proofs::OnRings::on_rings))]
 
+mod cut;
+
 ghost use Rattle.std.specs.Prelude.{◌≡◌};
 
 use check::expect;
-use meshing::{Triangulation, dedup_ring, triangulate_polygon};
+use cut::Cut;
+use meshing::{Triangulation, dedup_ring};
 use openrdson_core::Refusal;
 
 // So many vertices and triangles.
@@ -21,11 +24,9 @@ fn counts_of(vertices: usize, triangles: usize) -> Triangulation
 fn square() {
     let xs = [0.0, 2.0, 2.0, 0.0];
     let ys = [0.0, 0.0, 2.0, 2.0];
-    let mut ring_x = [9.0; 4];
-    let mut ring_y = [9.0; 4];
-    let mut corners = [9; 7];
-    let cut = triangulate_polygon(&xs, &ys, &mut ring_x, &mut ring_y, &mut corners);
-    expect(cut == Ok(counts_of(4, 2)));
+    let cut = Cut::<4, 7>::of_ring(&xs, &ys);
+    let corners = cut.corners;
+    expect(cut.answer == Ok(counts_of(4, 2)));
     expect((corners[0] == 3) & (corners[1] == 0) & (corners[2] == 1));
     expect((corners[3] == 1) & (corners[4] == 2) & (corners[5] == 3));
     expect(corners[6] == 9);
@@ -34,23 +35,18 @@ fn square() {
 fn turned() {
     let xs = [0.0, 0.0, 1.0];
     let ys = [0.0, 1.0, 0.0];
-    let mut ring_x = [9.0; 3];
-    let mut ring_y = [9.0; 3];
-    let mut corners = [9; 3];
-    let cut = triangulate_polygon(&xs, &ys, &mut ring_x, &mut ring_y, &mut corners);
-    expect(cut == Ok(counts_of(3, 1)));
+    let cut = Cut::<3, 3>::of_ring(&xs, &ys);
+    let corners = cut.corners;
+    expect(cut.answer == Ok(counts_of(3, 1)));
     expect((corners[0] == 2) & (corners[1] == 1) & (corners[2] == 0));
 }
 
 fn on_a_line() {
     let xs = [0.0, 1.0, 2.0, 3.0];
     let ys = [0.0, 1.0, 2.0, 3.0];
-    let mut ring_x = [9.0; 4];
-    let mut ring_y = [9.0; 4];
-    let mut corners = [9; 6];
-    let cut = triangulate_polygon(&xs, &ys, &mut ring_x, &mut ring_y, &mut corners);
-    expect(cut == Err(Refusal::ClippingStalled));
-    expect(ring_x[0] == 9.0);
+    let cut = Cut::<4, 6>::of_ring(&xs, &ys);
+    expect(cut.answer == Err(Refusal::ClippingStalled));
+    expect(cut.xs[0] == 9.0);
 }
 
 fn close_points() {

@@ -2,27 +2,17 @@
 #![tactic(auto, unfolding(worked::proofs::OnShapes::on_names))]
 
 use check::expect;
-use openrdson_core::{Figures, Material, Refusal, check_blocks, material_number, stack_layer};
+use openrdson_core::{
+    Blocks, Figures, Material, Refusal, Stack, Vias, check_blocks, material_number, stack_layer,
+};
+use worked::stack_of;
 
 fn stacks() {
     let empty = [0, 0];
     let damaged = [1, 0];
-    let mut stack = [0; 51];
-    stack[0] = 1;
-    stack[2] = 109;
-    stack[34] = 1;
-    stack[41] = 240;
-    stack[42] = 63;
-    let mut endless = [0; 51];
-    endless[0] = 1;
-    endless[2] = 109;
-    endless[34] = 1;
-    endless[41] = 240;
-    endless[42] = 127;
-    let mut flagged = [0; 51];
-    flagged[0] = 1;
-    flagged[2] = 109;
-    flagged[34] = 4;
+    let stack = stack_of!(b'm', 1, 240, 63);
+    let endless = stack_of!(b'm', 1, 240, 127);
+    let flagged = stack_of!(b'm', 4, 0, 0);
     expect(material_number(&stack, &empty, &empty, b"m") == Ok(Material(1)));
     expect(material_number(&stack, &empty, &empty, b"x") == Ok(Material(0)));
     expect(material_number(&stack, &empty, &damaged, b"m") == Err(Refusal::BlockDamaged));
@@ -36,12 +26,8 @@ fn stacks() {
 }
 
 fn materials() {
-    let mut conductors = [0; 51];
-    conductors[0] = 1;
-    conductors[2] = 109;
-    let mut diffusions = [0; 51];
-    diffusions[0] = 1;
-    diffusions[2] = 110;
+    let conductors = stack_of!(b'm', 0, 0, 0);
+    let diffusions = stack_of!(b'n', 0, 0, 0);
     let mut vias = [0; 98];
     vias[0] = 1;
     vias[2] = 118;
@@ -52,12 +38,7 @@ fn materials() {
 fn figures() {
     let empty = [0, 0];
     let damaged = [1, 0];
-    let mut endless = [0; 51];
-    endless[0] = 1;
-    endless[2] = 109;
-    endless[34] = 1;
-    endless[41] = 240;
-    endless[42] = 127;
+    let endless = stack_of!(b'm', 1, 240, 127);
     expect(
         check_blocks(&empty, &empty, &empty, &empty, &endless, &empty)
             == Err(Refusal::NumberOutOfRange),
@@ -68,8 +49,64 @@ fn figures() {
     );
 }
 
+// The same of checked blocks.
+fn checked_stack() {
+    let damaged = [1, 0];
+    expect(Stack::checked(&damaged).is_err());
+    let stack = stack_of!(b'm', 1, 240, 63);
+    if let Ok(layers) = Stack::checked(&stack) {
+        expect(layers.rows() == 1);
+        expect(layers.find(b"m").is_some());
+        expect(layers.find(b"n").is_none());
+    }
+}
+
+fn checked_vias() {
+    let damaged = [1, 0];
+    expect(Vias::checked(&damaged).is_err());
+    let mut vias = [0; 98];
+    vias[0] = 1;
+    vias[2] = 118;
+    if let Ok(list) = Vias::checked(&vias) {
+        expect(list.rows() == 1);
+        expect(list.find(b"v").is_some());
+        expect(list.find(b"m").is_none());
+    }
+}
+
+fn checked_blocks() {
+    let empty = [0, 0];
+    let damaged = [1, 0];
+    let mut vias = [0; 98];
+    vias[0] = 1;
+    vias[2] = 118;
+    let blocks = Blocks {
+        names: &empty,
+        conducting: &empty,
+        via: &empty,
+        conductors: &empty,
+        diffusions: &empty,
+        vias: &vias,
+    };
+    if let Ok(sound) = blocks.checked() {
+        expect(sound.find_material(b"v") == Material(1));
+    }
+    let wrong = Blocks {
+        names: &empty,
+        conducting: &empty,
+        via: &empty,
+        conductors: &empty,
+        diffusions: &empty,
+        vias: &damaged,
+    };
+    expect(wrong.checked().is_err());
+}
+
 fn main() {
     stacks();
     materials();
     figures();
+    checked_stack();
+    checked_vias();
+    checked_blocks();
 }

@@ -12,7 +12,7 @@ use Rattle.geometry.proofs.table.plan_of_layer.Goals as goal
 pub returns : goal.returns
 unfolding layer_plan
 returns c =
-    let e : row_of_pattern c.args.names.now (pattern_of c.args.layer) ≡ Some c.in_ok-i.i = search rules in
-    let inside = (layer_found c.args.names.now (pattern_of c.args.layer) c.in_ok-i.i e).1 in
-    let few = (counted Number Name true c.args.names.now c.requires.names).few in
-    rw e (get_or_default c.args.plans.now c.in_ok-i.i _ _ (omega (arith, inside, few, c.requires.room)))
+    let e : row_of_pattern c.args.names.bytes.now (pattern_of c.args.layer) ≡ Some c.in_ok-i.i = search rules in
+    let inside = (layer_found c.args.names.bytes.now (pattern_of c.args.layer) c.in_ok-i.i e).1 in
+    let few = (counted Number Name true c.args.names.bytes.now c.args.names.sound).few in
+    rw e (get_or_default c.args.plans.now c.in_ok-i.i _ _ (omega (arith, inside, few, c.told-plans)))

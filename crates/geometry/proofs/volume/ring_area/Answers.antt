@@ -4,35 +4,29 @@ use Rattle.std.specs.Prelude.{true}
 use borrow.Author.Tests.{not-true, not-false}
 use Rattle.binary64.specs.Numbers.{◌⊕◌}
 use Rattle.openrdson_core.proofs.Areas.{Summing, summing_start}
-use Rattle.geometry.proofs.RingLaws.{ring_long, two_more, two_out, no_points, ends_small, ends_one, ends_two}
+use Rattle.geometry.proofs.RingLaws.{two_more, two_out, ends_small, ends_one, ends_two}
 use Rattle.geometry.proofs.volume.ring_area.Goals as goal
 
-pub returns-then-n-gt512 : goal.returns-then-n-gt512
-returns-then-n-gt512 c = ring_long c.args.xs.now c.args.ys.now c.requires c.if-n-gt512.true
-
-pub returns-then-n-eq0 : goal.returns-then-n-eq0
-returns-then-n-eq0 c = no_points c.args.xs.now c.args.ys.now c.requires c.if-n-gt512.false c.if-n-eq0.true
-
 pub loop-turn-init : goal.loop-turn-init
-loop-turn-init c = summing_start c.args.xs.now c.args.ys.now
+loop-turn-init c = summing_start c.args.ring.xs.now c.args.ring.ys.now
 
 pub returns-then-not-is_in_range : goal.returns-then-not-is_in_range
-returns-then-not-is_in_range c = two_out c.args.xs.now c.args.ys.now c.requires c.if-n-gt512.false (2 * c.loop-turn.turn) ((2 * c.loop-turn.turn) + 1) _ _ (omega arith) (omega arith) c.new-a.ensures c.new-b.ensures c.is_in_range.ensures c.is_in_range-in-loop-turn.ensures (not-true _ c.if-not-is_in_range.true-raw)
+returns-then-not-is_in_range c = two_out c.args.ring.xs.now c.args.ring.ys.now c.args.ring.even c.if-n-gt512.false (2 * c.loop-turn.turn) ((2 * c.loop-turn.turn) + 1) _ _ (omega arith) (omega arith) c.new-a.ensures c.new-b.ensures c.is_in_range.ensures c.is_in_range-in-loop-turn.ensures (not-true _ c.if-not-is_in_range.true-raw)
 
 pub loop-turn-preserved : goal.loop-turn-preserved
 loop-turn-preserved c =
     let e : 2 * c.loop-turn.turn + 2 ≡ 2 * (c.loop-turn.turn + 1) = omega arith in
-    subst (λ k. Summing c.args.xs.now c.args.ys.now k (c.loop-turn.sum ⊕ c.cross_of.result ⊕ c.cross_of-in-loop-turn.result) true) e
-    (two_more c.args.xs.now c.args.ys.now c.requires _ _ _ c.loop-turn.invariant (omega arith) c.new-a.ensures c.new-b.ensures c.new-c.ensures c.is_in_range.ensures c.is_in_range-in-loop-turn.ensures (not-false _ c.if-not-is_in_range.false-raw) (rw (c.cross_of.ensures, c.cross_of-in-loop-turn.ensures)))
+    subst (λ k. Summing c.args.ring.xs.now c.args.ring.ys.now k (c.loop-turn.sum ⊕ c.cross_of.result ⊕ c.cross_of-in-loop-turn.result) true) e
+    (two_more c.args.ring.xs.now c.args.ring.ys.now c.args.ring.even _ _ _ c.loop-turn.invariant (omega arith) c.new-a.ensures c.new-b.ensures c.new-c.ensures c.is_in_range.ensures c.is_in_range-in-loop-turn.ensures (not-false _ c.if-not-is_in_range.false-raw) (rw (c.cross_of.ensures, c.cross_of-in-loop-turn.ensures)))
 
 pub returns-then-not-is_in_range-2 : goal.returns-then-not-is_in_range-2
-returns-then-not-is_in_range-2 c = two_out c.args.xs.now c.args.ys.now c.requires c.if-n-gt512.false _ (length c.args.xs.now - 1) _ _ (omega arith) (omega arith) c.new-here.ensures c.new-last.ensures c.is_in_range-2.ensures c.is_in_range-3.ensures (not-true _ c.if-not-is_in_range-2.true-raw)
+returns-then-not-is_in_range-2 c = two_out c.args.ring.xs.now c.args.ring.ys.now c.args.ring.even c.if-n-gt512.false _ (length c.args.ring.xs.now - 1) _ _ (omega arith) (omega arith) c.new-here.ensures c.new-last.ensures c.is_in_range-2.ensures c.is_in_range-3.ensures (not-true _ c.if-not-is_in_range-2.true-raw)
 
 pub returns-then-n-lt3 : goal.returns-then-n-lt3
-returns-then-n-lt3 c = ends_small c.args.xs.now c.args.ys.now c.requires c.if-n-gt512.false (subst (λ k. Summing c.args.xs.now c.args.ys.now k c.loop-turn.sum true) (omega arith) c.loop-turn.invariant) _ _ c.new-here.ensures c.new-last.ensures c.is_in_range-2.ensures c.is_in_range-3.ensures (not-false _ c.if-not-is_in_range-2.false-raw) (omega arith) (omega arith) c.if-n-lt3.true
+returns-then-n-lt3 c = ends_small c.args.ring.xs.now c.args.ring.ys.now c.args.ring.even c.if-n-gt512.false (subst (λ k. Summing c.args.ring.xs.now c.args.ring.ys.now k c.loop-turn.sum true) (omega arith) c.loop-turn.invariant) _ _ c.new-here.ensures c.new-last.ensures c.is_in_range-2.ensures c.is_in_range-3.ensures (not-false _ c.if-not-is_in_range-2.false-raw) (omega arith) (omega arith) c.if-n-lt3.true
 
 pub returns-then-i-n : goal.returns-then-i-n
-returns-then-i-n c = ends_two c.args.xs.now c.args.ys.now c.requires c.if-n-gt512.false (subst (λ k. Summing c.args.xs.now c.args.ys.now k c.loop-turn.sum true) (omega arith) c.loop-turn.invariant) _ _ c.new-here.ensures c.new-last.ensures c.is_in_range-2.ensures c.is_in_range-3.ensures (not-false _ c.if-not-is_in_range-2.false-raw) _ c.if-i-n.true (omega arith) c.if-n-lt3.false c.new.ensures (rw (c.abs.ensures, c.cross_of-closing.ensures, c.cross_of-then-i-n.ensures))
+returns-then-i-n c = ends_two c.args.ring.xs.now c.args.ring.ys.now c.args.ring.even c.if-n-gt512.false (subst (λ k. Summing c.args.ring.xs.now c.args.ring.ys.now k c.loop-turn.sum true) (omega arith) c.loop-turn.invariant) _ _ c.new-here.ensures c.new-last.ensures c.is_in_range-2.ensures c.is_in_range-3.ensures (not-false _ c.if-not-is_in_range-2.false-raw) _ c.if-i-n.true (omega arith) c.if-n-lt3.false c.new.ensures (rw (c.abs.ensures, c.cross_of-closing.ensures, c.cross_of-then-i-n.ensures))
 
 pub returns : goal.returns
-returns c = ends_one c.args.xs.now c.args.ys.now c.requires c.if-n-gt512.false (subst (λ k. Summing c.args.xs.now c.args.ys.now k c.loop-turn.sum true) (omega arith) c.loop-turn.invariant) _ _ c.new-here.ensures c.new-last.ensures c.is_in_range-2.ensures c.is_in_range-3.ensures (not-false _ c.if-not-is_in_range-2.false-raw) _ (omega arith) c.if-n-lt3.false c.new.ensures (rw (c.abs-2.ensures, c.cross_of-closing.ensures))
+returns c = ends_one c.args.ring.xs.now c.args.ring.ys.now c.args.ring.even c.if-n-gt512.false (subst (λ k. Summing c.args.ring.xs.now c.args.ring.ys.now k c.loop-turn.sum true) (omega arith) c.loop-turn.invariant) _ _ c.new-here.ensures c.new-last.ensures c.is_in_range-2.ensures c.is_in_range-3.ensures (not-false _ c.if-not-is_in_range-2.false-raw) _ (omega arith) c.if-n-lt3.false c.new.ensures (rw (c.abs-2.ensures, c.cross_of-closing.ensures))

@@ -4,4 +4,4 @@ use Rattle.openrdson_core.proofs.Areas.{Summing}
 use Rattle.geometry.proofs.volume.ring_area.Given as goal
 
 abbrev pub invariant-loop-turn : goal.invariant-loop-turn
-invariant-loop-turn l = Summing l.xs l.ys (2 * l.turn) l.sum true
+invariant-loop-turn l = Summing l.ring.xs.now l.ring.ys.now (2 * l.turn) l.sum true

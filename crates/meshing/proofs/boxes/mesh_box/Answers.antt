@@ -5,11 +5,11 @@ use Rattle.meshing.proofs.BoxLaws.{box_refused, box_given, judged_fits}
 use Rattle.meshing.proofs.BoxWrites.{refused_adds, same_adds}
 use Rattle.meshing.proofs.boxes.mesh_box.Goals as goal
 
-pub returns-in_err-cells : goal.returns-in_err-cells
-returns-in_err-cells c = refused_adds _ (box_refused _ _ _ _ _ _ _ (sym c.in_err-cells.ensures)) (grind (arith, common_steps))
+pub returns-in_err-cells-clause-mesh : goal.returns-in_err-cells-clause-mesh
+returns-in_err-cells-clause-mesh c = refused_adds _ (box_refused _ _ _ _ _ _ _ (sym c.in_err-cells.ensures)) (grind (arith, common_steps))
 
 pub write_box-requires : goal.write_box-requires
 write_box-requires c = judged_fits _ _ _ _ _ _ _ _ _ _ _ _ _ (sym c.in_ok-cells.ensures)
 
-pub returns : goal.returns
-returns c = same_adds (sym (box_given _ _ _ _ _ _ _ (sym c.in_ok-cells.ensures))) c.write_box.ensures
+pub returns-clause-mesh : goal.returns-clause-mesh
+returns-clause-mesh c = same_adds (sym (box_given _ _ _ _ _ _ _ (sym c.in_ok-cells.ensures))) c.write_box.ensures.mesh

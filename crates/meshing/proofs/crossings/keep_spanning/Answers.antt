@@ -1,6 +1,5 @@
 -- `keep_spanning` meets its contract: its loop is `Sifted`. Assumes nothing.
-use Rattle.std.proofs.Common.{sym, ◌∙◌, take, arith}
-use Rattle.std.proofs.Math.Seq.{length-take-le, get_or-take}
+use Rattle.std.proofs.Common.{sym, ◌∙◌, arith}
 use Rattle.lists.proofs.Passing.{sift_at, sift_keeps, sift_drops}
 use Rattle.lists.proofs.Places.{below_at}
 use Rattle.meshing.proofs.crossings.keep_spanning.Goals as goal
@@ -8,9 +7,7 @@ use Rattle.meshing.proofs.crossings.keep_spanning.Goals.{else-spans, then-spans}
 
 pub spans-requires : goal.spans-requires
 spans-requires c = let v = c.loop-i in
-    let old = c.args.edges.now in
-    let b = below_at _ (take c.args.m old) v.i c.requires.1 (omega (arith, length-take-le c.args.m old c.requires.0)) in
-    omega (arith, b, sift_at _ _ v.invariant 0 (omega arith), get_or-take c.args.m old v.i 0 (omega arith))
+    omega (arith, sift_at _ _ v.invariant 0 (omega arith), below_at _ c.args.edges.now v.i c.requires (omega arith))
 
 pub loop-i-preserved : goal.loop-i-preserved
 loop-i-preserved c = let v = c.loop-i in

@@ -6,17 +6,17 @@ use Rattle.meshing.proofs.crossings.sort_crossings.Goals as goal
 
 pub edge_at-x-requires : goal.edge_at-x-requires
 edge_at-x-requires c = let a = c.args in
-    (c.requires.0, omega (arith, sorting_at a.xs.now a.ys.now a.y a.edges.now c.loop-i.invariant, below_at (length a.xs.now) a.edges.now c.loop-i.i c.requires.2 (omega arith)))
+    omega (arith, sorting_at a.ring.xs.now a.ring.ys.now a.y a.edges.now c.loop-i.invariant, below_at (length a.ring.xs.now) a.edges.now c.loop-i.i c.requires.1 (omega arith))
 
 pub returns-then-not-coordinate_in_range : goal.returns-then-not-coordinate_in_range
 returns-then-not-coordinate_in_range c = let a = c.args in
-    sorting_out a.xs.now a.ys.now a.y a.edges.now c.loop-i.invariant c.edge_at-x.result (omega arith) c.edge_at-x.ensures (sym c.coordinate_in_range.ensures ∙ c.if-not-coordinate_in_range.true)
+    sorting_out a.ring.xs.now a.ring.ys.now a.y a.edges.now c.loop-i.invariant c.edge_at-x.result (omega arith) c.edge_at-x.ensures (sym c.coordinate_in_range.ensures ∙ c.if-not-coordinate_in_range.true)
 
 pub loop-i-preserved : goal.loop-i-preserved
 loop-i-preserved c = let a = c.args in
     let p = c.insert_crossing in
-    sorting_turn a.xs.now a.ys.now a.y a.edges.now c.loop-i.invariant c.edge_at-x.result (omega arith) c.edge_at-x.ensures _ _ (sym c.coordinate_in_range.ensures ∙ c.if-not-coordinate_in_range.false) p.ensures.0 p.ensures.1 p.ensures.2 p.auto.edges
+    sorting_turn a.ring.xs.now a.ring.ys.now a.y a.edges.now c.loop-i.invariant c.edge_at-x.result (omega arith) c.edge_at-x.ensures _ _ (sym c.coordinate_in_range.ensures ∙ c.if-not-coordinate_in_range.false) p.ensures.0 p.ensures.1 p.ensures.2 p.auto.edges
 
 pub returns : goal.returns
 returns c = let a = c.args in
-    sorting_end a.xs.now a.ys.now a.y a.edges.now c.loop-i.invariant (omega arith)
+    sorting_end a.ring.xs.now a.ring.ys.now a.y a.edges.now c.loop-i.invariant (omega arith)

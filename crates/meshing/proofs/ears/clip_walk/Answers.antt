@@ -3,17 +3,14 @@ use Rattle.std.proofs.Common.{◌≡◌, ◌-◌, ◌∙◌, sym, length, arith}
 use Rattle.std.proofs.lemmas.Grind.{common_steps}
 use Rattle.lists.specs.Answer.{refused}
 use Rattle.lists.proofs.Parts.{rest_lent}
-use Rattle.lists.proofs.Places.{below_wider}
+use Rattle.lists.proofs.Places.{below_at, below_wider}
 use Rattle.openrdson_core.specs.Answers.{answer}
 use Rattle.meshing.specs.Ears.{is_ear}
-use Rattle.meshing.proofs.ClipLaws.{run_start, run_below, run_at, run_cut, run_stalls, run_ends}
+use Rattle.meshing.proofs.ClipLaws.{run_below, run_at, run_cut, run_stalls, run_ends}
 use Rattle.meshing.proofs.ears.clip_walk.Goals as goal
 
-pub loop-at-init : goal.loop-at-init
-loop-at-init c = run_start _ _ _ _ c.requires.2 c.requires.3 c.requires.4
-
-pub first_ear-requires : goal.first_ear-requires
-first_ear-requires c = let v = c.loop-at in record { same = c.requires.0; walk = run_below _ _ _ _ _ _ v.invariant _ (rest_lent v.walk v.at) }
+pub invariant_of-first_ear : goal.invariant_of-first_ear
+invariant_of-first_ear c = let v = c.loop-at in record { below = λ i h. below_at _ _ i (run_below _ _ _ _ _ _ v.invariant _ (rest_lent v.walk v.at)) h }
 
 pub returns-in_err-i : goal.returns-in_err-i
 returns-in_err-i c = let v = c.loop-at in
@@ -24,7 +21,7 @@ pub cut_ear-requires : goal.cut_ear-requires
 cut_ear-requires c = let v = c.loop-at in
     let rest = rest_lent v.walk v.at in (
       run_at _ _ _ _ _ _ v.invariant _ rest c.in_ok-i.i (sym c.in_ok-i.ensures.ok_part ∙ c.first_ear.ensures),
-      below_wider _ 512 _ c.requires.1 (run_below _ _ _ _ _ _ v.invariant _ rest),
+      below_wider _ 512 _ c.args.ring.short (run_below _ _ _ _ _ _ v.invariant _ rest),
       omega arith,
     )
 
@@ -36,4 +33,4 @@ loop-at-preserved c = let v = c.loop-at in
 pub returns : goal.returns
 returns c = let v = c.loop-at in
     let end : v.at ≡ length c.args.walk.now - 3 = omega arith in
-    run_ends (is_ear c.args.xs.now c.args.ys.now) (length c.args.xs.now) c.args.walk.now v.walk v.out v.at v.invariant c.put_triangle.new.out (omega arith) (rw end c.put_triangle.ensures)
+    run_ends (is_ear c.args.ring.xs.now c.args.ring.ys.now) (length c.args.ring.xs.now) c.args.walk.now v.walk v.out v.at v.invariant c.put_triangle.new.out (omega arith) (rw end c.put_triangle.ensures)

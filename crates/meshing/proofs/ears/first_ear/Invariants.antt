@@ -4,4 +4,4 @@ use Rattle.meshing.specs.Ears.{is_ear}
 use Rattle.meshing.proofs.ears.first_ear.Given as goal
 
 abbrev pub invariant-loop-i : goal.invariant-loop-i
-invariant-loop-i l = Searched (is_ear l.xs l.ys l.walk) (length l.walk) l.i
+invariant-loop-i l = Searched (is_ear l.walk.ring.xs.now l.walk.ring.ys.now l.walk.vertices.now) (length l.walk.vertices.now) l.i

@@ -7,4 +7,4 @@ use Rattle.meshing.proofs.ears.is_clear.Goals as goal
 
 pub returns-then-is_blocking : goal.returns-then-is_blocking
 unfolding is_clear
-returns-then-is_blocking c = let a = c.args in sym (all_fails (free a.xs.now a.ys.now a.walk.now a.a a.b a.c) _ c.loop-j.j-index c.loop-j-test.true (ap not (sym c.is_blocking.ensures ∙ c.if-is_blocking.true)))
+returns-then-is_blocking c = let a = c.args in sym (all_fails (free a.walk.ring.xs.now a.walk.ring.ys.now a.walk.vertices.now a.a a.b a.c) _ c.loop-j.j-index c.loop-j-test.true (ap not (sym c.is_blocking.ensures ∙ c.if-is_blocking.true)))

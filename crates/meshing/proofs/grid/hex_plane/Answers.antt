@@ -11,5 +11,5 @@ loop-j-init c = no_runs _ _ _ _
 pub loop-j-preserved : goal.loop-j-preserved
 loop-j-preserved c = let a = c.args in
     let l = c.loop-j in
-    let space = run_room a.ny (a.nx * 8) l.j c.loop-j-test.true in
-    one_run l.invariant (c.hex_row.ensures ∙ (λ t. put l.places (a.at + l.j * (a.nx * 8)) (runs a.nx (λ i. hex_row a.a a.nx a.ny i l.j (a.a + l.j * (a.nx + 1)) refl t)))) (λ j. row_length _ _ _ _ _ _) refl (omega arith)
+    let space = run_room a.cells.ny (a.cells.nx * 8) l.j c.loop-j-test.true in
+    one_run l.invariant (c.hex_row.ensures ∙ (λ t. put l.places (a.at + l.j * (a.cells.nx * 8)) (runs a.cells.nx (λ i. hex_row a.a a.cells.nx a.cells.ny i l.j (a.a + l.j * (a.cells.nx + 1)) refl t)))) (λ j. row_length _ _ _ _ _ _) refl (omega arith)

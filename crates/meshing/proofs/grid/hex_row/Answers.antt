@@ -11,4 +11,4 @@ loop-i-init c = no_runs _ _ _ _
 pub loop-i-preserved : goal.loop-i-preserved
 loop-i-preserved c = let a = c.args in
     let l = c.loop-i in
-    one_run l.invariant (c.write_eight.ensures ∙ ap (put l.places (a.at + 8 * l.i)) (hex_is a.first a.nx a.ny l.i (a.first + l.i) (a.nx + 1) ((a.nx + 1) * (a.ny + 1)) refl refl refl)) (λ i. hex_length _ _ _ _ _ _) (omega arith) (omega arith)
+    one_run l.invariant (c.write_eight.ensures ∙ ap (put l.places (a.at + 8 * l.i)) (hex_is a.first a.cells.nx a.cells.ny l.i (a.first + l.i) (a.cells.nx + 1) ((a.cells.nx + 1) * (a.cells.ny + 1)) refl refl refl)) (λ i. hex_length _ _ _ _ _ _) (omega arith) (omega arith)

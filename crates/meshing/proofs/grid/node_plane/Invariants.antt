@@ -1,10 +1,10 @@
 use Rattle.std.proofs.Common.{◌+◌}
 use Rattle.lists.specs.Lists.{elems}
+use Rattle.openrdson_core.specs.Mesh.{held, Same}
 use Rattle.meshing.specs.Cells.{axis_at}
-use Rattle.lists.proofs.Fills.{Runs}
+use Rattle.meshing.proofs.BoxWrites.{NodeRuns}
 use Rattle.meshing.proofs.grid.node_plane.Given as goal
 
 abbrev pub invariant-loop-j : goal.invariant-loop-j
-invariant-loop-j l = Runs l.initial.xs l.at (λ j. elems (l.nx + 1) (λ i. axis_at l.x0 l.x1 l.nx i)) (l.nx + 1) l.j l.xs
-    × Runs l.initial.ys l.at (λ j. elems (l.nx + 1) (λ i. axis_at l.y0 l.y1 l.ny j)) (l.nx + 1) l.j l.ys
-    × Runs l.initial.zs l.at (λ j. elems (l.nx + 1) (λ i. l.z)) (l.nx + 1) l.j l.zs
+invariant-loop-j l = NodeRuns (held l.initial.lists) l.at (λ j. elems (l.x.cells + 1) (λ i. axis_at l.x.low l.x.high l.x.cells i)) (λ j. elems (l.x.cells + 1) (λ i. axis_at l.y.low l.y.high l.y.cells j)) (λ j. elems (l.x.cells + 1) (λ i. l.z)) (l.x.cells + 1) l.j (held l.lists)
+    × Same l.initial.lists l.lists

@@ -2,6 +2,7 @@
 use Rattle.std.proofs.Common.{◌≡◌, ◌+◌, refl, arith}
 use Rattle.lists.proofs.Fills.{no_elems, one_elem, all_elems}
 use Rattle.meshing.proofs.GridLaws.{axis_inner, axis_last}
+use Rattle.meshing.proofs.BoxWrites.{same_mesh}
 use Rattle.meshing.proofs.grid.node_row.Goals as goal
 
 pub loop-i-init : goal.loop-i-init
@@ -10,18 +11,21 @@ loop-i-init c = (no_elems _ _ _, no_elems _ _ _, no_elems _ _ _)
 pub loop-i-preserved : goal.loop-i-preserved
 loop-i-preserved c = let a = c.args in
     let inv = c.loop-i.invariant in (
-      one_elem inv.0 refl (omega arith) (axis_inner a.x0 a.x1 a.step a.nx c.loop-i.i c.requires.sizes.1 c.loop-i-test.true),
+      one_elem inv.0 refl (omega arith) (axis_inner a.x.low a.x.high a.x.step a.x.cells c.loop-i.i a.x.even c.loop-i-test.true),
       one_elem inv.1 refl (omega arith) refl,
       one_elem inv.2 refl (omega arith) refl,
     )
 
-pub returns : goal.returns
-returns c = let a = c.args in
+pub returns-clause-nodes : goal.returns-clause-nodes
+returns-clause-nodes c = let a = c.args in
     let inv = c.loop-i.invariant in
-    let done : c.loop-i.i ≡ a.nx = omega arith in
-    let place : a.at + a.nx ≡ a.at + c.loop-i.i = omega arith in
-    let all : c.loop-i.i + 1 ≡ a.nx + 1 = omega arith in (
-      all_elems (one_elem inv.0 place (omega arith) (axis_last a.x0 a.x1 a.nx c.loop-i.i done)) all,
-      all_elems (one_elem inv.1 place (omega arith) refl) all,
-      all_elems (one_elem inv.2 place (omega arith) refl) all,
-    )
+    let done : c.loop-i.i ≡ a.x.cells = omega arith in
+    let place : a.at + a.x.cells ≡ a.at + c.loop-i.i = omega arith in
+    let all : c.loop-i.i + 1 ≡ a.x.cells + 1 = omega arith in
+    same_mesh
+    (all_elems (one_elem inv.0 place (omega arith) (axis_last a.x.low a.x.high a.x.cells c.loop-i.i done)) all)
+    (all_elems (one_elem inv.1 place (omega arith) refl) all)
+    (all_elems (one_elem inv.2 place (omega arith) refl) all)
+    refl
+    refl
+    refl

@@ -12,9 +12,9 @@ loop-k-init c = no_runs _ _ _ _
 pub loop-k-preserved : goal.loop-k-preserved
 loop-k-preserved c = let a = c.args in
     let l = c.loop-k in
-    let space = run_room a.nz (a.ny * (a.nx * 8)) l.k c.loop-k-test.true in
-    let cells = cells_are a.nx a.ny a.nz in
-    one_run l.invariant (c.hex_plane.ensures ∙ (λ t. put l.places (a.at + l.k * (a.ny * (a.nx * 8))) (runs a.ny (λ j. runs a.nx (λ i. hex_plane a.base a.nx a.ny i j l.k (a.base + l.k * ((a.nx + 1) * (a.ny + 1))) refl t))))) (λ k. rows_length _ _ _ _) refl (omega arith)
+    let space = run_room a.cells.nz (a.cells.ny * (a.cells.nx * 8)) l.k c.loop-k-test.true in
+    let cells = cells_are a.cells.nx a.cells.ny a.cells.nz in
+    one_run l.invariant (c.hex_plane.ensures ∙ (λ t. put l.places (a.at + l.k * (a.cells.ny * (a.cells.nx * 8))) (runs a.cells.ny (λ j. runs a.cells.nx (λ i. hex_plane a.base a.cells.nx a.cells.ny i j l.k (a.base + l.k * ((a.cells.nx + 1) * (a.cells.ny + 1))) refl t))))) (λ k. rows_length _ _ _ _) refl (omega arith)
 
 pub returns : goal.returns
 unfolding hex_places

@@ -1,8 +1,7 @@
 use Rattle.std.proofs.Common.{◌*◌, drop}
-use Rattle.meshing.specs.Levels.{the_band}
 use Rattle.meshing.specs.Quads.{quads_between}
 use Rattle.meshing.proofs.QuadLaws.{Sofar}
 use Rattle.meshing.proofs.quads.write_quads.Given as goal
 
 abbrev pub invariant-loop-left : goal.invariant-loop-left
-invariant-loop-left l = Sofar (quads_between l.xs l.ys (the_band l.low l.high) l.edges) (quads_between l.xs l.ys (the_band l.low l.high) (drop (l.left-index * 2) l.edges)) l.p l.at l.initial.nx l.initial.ny l.nx l.ny
+invariant-loop-left l = Sofar (quads_between l.ring.xs.now l.ring.ys.now l.band l.edges) (quads_between l.ring.xs.now l.ring.ys.now l.band (drop (l.left-index * 2) l.edges)) l.p l.at l.initial.nx l.initial.ny l.nx l.ny

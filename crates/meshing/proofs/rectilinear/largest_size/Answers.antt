@@ -8,7 +8,7 @@ pub loop-i-init : goal.loop-i-init
 loop-i-init c = fold_start _ _
 
 pub loop-i-preserved : goal.loop-i-preserved
-loop-i-preserved c = size_more c.args.xs.now c.args.ys.now c.loop-i.i c.loop-i.invariant c.abs.ensures c.larger.ensures c.abs-in-loop-i.ensures c.larger-size.ensures
+loop-i-preserved c = size_more c.args.ring.xs.now c.args.ring.ys.now c.loop-i.i c.loop-i.invariant c.abs.ensures c.larger.ensures c.abs-in-loop-i.ensures c.larger-size.ensures
 
 pub returns : goal.returns
-returns c = size_end c.args.xs.now c.args.ys.now c.loop-i.invariant (omega arith)
+returns c = size_end c.args.ring.xs.now c.args.ring.ys.now c.loop-i.invariant (omega arith)

@@ -5,16 +5,16 @@ use Rattle.meshing.proofs.RectLaws.{rect_few, tolerance_is, rect_more, rect_slan
 use Rattle.meshing.proofs.rectilinear.ring_is_rectilinear.Goals as goal
 
 pub returns-then-n-lt3 : goal.returns-then-n-lt3
-returns-then-n-lt3 c = rect_few c.args.xs.now c.args.ys.now c.if-n-lt3.true
+returns-then-n-lt3 c = rect_few c.args.ring.xs.now c.args.ring.ys.now c.if-n-lt3.true
 
 pub loop-i-init : goal.loop-i-init
-loop-i-init c = (tolerance_is c.args.xs.now c.args.ys.now c.largest_size.ensures c.larger-eps.ensures, all_start _)
+loop-i-init c = (tolerance_is c.args.ring.xs.now c.args.ring.ys.now c.largest_size.ensures c.larger-eps.ensures, all_start _)
 
 pub returns-then-is_slanted : goal.returns-then-is_slanted
-returns-then-is_slanted c = rect_slanted c.args.xs.now c.args.ys.now c.loop-i.i c.next_place.result c.loop-i.invariant.0 c.point_at.ensures c.next_place.ensures.0 c.point_at-in-loop-i.ensures c.is_slanted.ensures c.loop-i-test.true c.if-is_slanted.true
+returns-then-is_slanted c = rect_slanted c.args.ring.xs.now c.args.ring.ys.now c.loop-i.i c.next_place.result c.loop-i.invariant.0 c.point.ensures c.next_place.ensures.0 c.point-in-loop-i.ensures c.is_slanted.ensures c.loop-i-test.true c.if-is_slanted.true
 
 pub loop-i-preserved : goal.loop-i-preserved
-loop-i-preserved c = (c.loop-i.invariant.0, rect_more c.args.xs.now c.args.ys.now c.loop-i.i c.next_place.result c.loop-i.invariant.0 c.point_at.ensures c.next_place.ensures.0 c.point_at-in-loop-i.ensures c.is_slanted.ensures c.loop-i.invariant.1 c.if-is_slanted.false)
+loop-i-preserved c = (c.loop-i.invariant.0, rect_more c.args.ring.xs.now c.args.ring.ys.now c.loop-i.i c.next_place.result c.loop-i.invariant.0 c.point.ensures c.next_place.ensures.0 c.point-in-loop-i.ensures c.is_slanted.ensures c.loop-i.invariant.1 c.if-is_slanted.false)
 
 pub returns : goal.returns
-returns c = rect_end c.args.xs.now c.args.ys.now c.if-n-lt3.false c.loop-i.invariant.1 (omega arith)
+returns c = rect_end c.args.ring.xs.now c.args.ring.ys.now c.if-n-lt3.false c.loop-i.invariant.1 (omega arith)

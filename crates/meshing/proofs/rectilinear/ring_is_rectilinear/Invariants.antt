@@ -6,4 +6,4 @@ use Rattle.meshing.proofs.RectLaws.{is_straight}
 use Rattle.meshing.proofs.rectilinear.ring_is_rectilinear.Given as goal
 
 abbrev pub invariant-loop-i : goal.invariant-loop-i
-invariant-loop-i l = (l.eps ≡ slant_tolerance l.xs l.ys) × (all_below l.i (is_straight l.xs l.ys) ≡ true)
+invariant-loop-i l = (l.eps ≡ slant_tolerance l.ring.xs.now l.ring.ys.now) × (all_below l.i (is_straight l.ring.xs.now l.ring.ys.now) ≡ true)

@@ -1,16 +1,15 @@
 -- `mesh_region` meets its contract: a box or a prism. Assumes nothing.
-use mathlib.Core.Path.{refl, sym}
-use Rattle.openrdson_core.specs.Mesh.{the_mesh}
-use Rattle.meshing.specs.Regions.{mesh_region}
+use Rattle.std.proofs.Common.{refl, sym}
+use Rattle.openrdson_core.specs.Mesh.{held}
 use Rattle.meshing.proofs.BoxWrites.{same_adds, refused_adds}
 use Rattle.meshing.proofs.PrismLaws.{region_uneven, region_box, region_prism}
 use Rattle.meshing.proofs.region.mesh_region.Goals as goal
 
-pub returns-then-point_x-point_y : goal.returns-then-point_x-point_y
-returns-then-point_x-point_y c = refused_adds (mesh_region c.args.region.solid c.args.region.material_id.0 c.args.config c.args.counts c.args.point_x.now c.args.point_y.now (the_mesh c.args.xs.now c.args.ys.now c.args.zs.now c.args.kinds.now c.args.places.now c.args.regions.now)) (region_uneven _ _ _ _ _ _ c.in-Box.is c.args.region.material_id.0 c.args.config c.args.counts c.args.point_x.now c.args.point_y.now (the_mesh c.args.xs.now c.args.ys.now c.args.zs.now c.args.kinds.now c.args.places.now c.args.regions.now) c.if-point_x-point_y.true) refl
+pub returns-then-xs-ys-clause-mesh : goal.returns-then-xs-ys-clause-mesh
+returns-then-xs-ys-clause-mesh c = let a = c.args in refused_adds _ (region_uneven _ _ _ _ _ _ c.in-Box.is a.region.material_id.0 a.config a.counts a.xs.now a.ys.now (held a.lists.now) c.if-xs-ys.true) refl
 
-pub returns-else-point_x-point_y : goal.returns-else-point_x-point_y
-returns-else-point_x-point_y c = same_adds (sym (region_box _ _ _ _ _ _ c.in-Box.is c.args.region.material_id.0 c.args.config c.args.counts c.args.point_x.now c.args.point_y.now (the_mesh c.args.xs.now c.args.ys.now c.args.zs.now c.args.kinds.now c.args.places.now c.args.regions.now) c.if-point_x-point_y.false)) c.mesh_box.ensures
+pub returns-else-xs-ys-clause-mesh : goal.returns-else-xs-ys-clause-mesh
+returns-else-xs-ys-clause-mesh c = let a = c.args in same_adds (sym (region_box _ _ _ _ _ _ c.in-Box.is a.region.material_id.0 a.config a.counts a.xs.now a.ys.now (held a.lists.now) c.if-xs-ys.false)) (rw (c.z_bottom-bottom.ensures, c.z_top-top.ensures, c.in-Box.is) at c.mesh_box.ensures.mesh)
 
-pub returns-in-Prism : goal.returns-in-Prism
-returns-in-Prism c = same_adds (sym (region_prism _ _ _ _ c.in-Prism.is c.args.region.material_id.0 c.args.config c.args.counts c.args.point_x.now c.args.point_y.now (the_mesh c.args.xs.now c.args.ys.now c.args.zs.now c.args.kinds.now c.args.places.now c.args.regions.now))) c.mesh_prism.ensures
+pub returns-in-Prism-clause-mesh : goal.returns-in-Prism-clause-mesh
+returns-in-Prism-clause-mesh c = let a = c.args in same_adds (sym (region_prism _ _ _ _ c.in-Prism.is a.region.material_id.0 a.config a.counts a.xs.now a.ys.now (held a.lists.now))) (rw (c.z_bottom-bottom.ensures, c.z_top-top.ensures, c.in-Prism.is) at c.mesh_prism.ensures.mesh)

@@ -3,4 +3,4 @@ use Rattle.meshing.proofs.ScanlineLaws.{InHand, Writing}
 use Rattle.meshing.proofs.scanline.write_bands.Given as goal
 
 abbrev pub invariant-loop-k : goal.invariant-loop-k
-invariant-loop-k l = InHand l.ys l.below l.count l.edges × Writing l.xs l.ys l.levels (l.k - 1) l.p l.place l.initial.nx l.initial.ny l.nx l.ny
+invariant-loop-k l = InHand l.ring.ys.now l.below l.count l.edges × Writing l.ring.xs.now l.ring.ys.now l.levels (l.k - 1) l.p l.place l.initial.nx l.initial.ny l.nx l.ny

@@ -1,30 +1,33 @@
 -- `write_scanline` meets its contract: each list by its writer, where there is room. Assumes nothing.
 use Rattle.std.proofs.Common.{refl, sym, length, ◌∙◌}
-use Rattle.openrdson_core.specs.Mesh.{the_mesh}
+use Rattle.openrdson_core.specs.Mesh.{held}
 use Rattle.meshing.proofs.BoxWrites.{refused_adds}
 use Rattle.meshing.proofs.ScanlineLaws.{scanline_part, decided, bands_room, quad_room, nodes_out, elements_out, quads_add}
 use Rattle.meshing.proofs.scanline.write_scanline.Goals as goal
 
-pub returns-then-not-has_room : goal.returns-then-not-has_room
-returns-then-not-has_room c = let a = c.args in
-    let m = the_mesh a.nx.now a.ny.now a.nz.now a.kinds.now a.places.now a.regions.now in
-    let d = decided a.xs.now a.ys.now c.requires.worked.2 in
-    refused_adds (scanline_part a.xs.now a.ys.now a.z_bottom a.z_top a.counts a.region m) (nodes_out a.xs.now a.ys.now a.z_bottom a.z_top a.counts a.region m d (sym c.has_room.ensures ∙ c.if-not-has_room.true)) refl
+pub returns-then-not-has_room-clause-mesh : goal.returns-then-not-has_room-clause-mesh
+returns-then-not-has_room-clause-mesh c = let a = c.args in
+    let r = a.bands.ring.ring in
+    let h = a.heights in
+    let m = held a.lists.now in
+    refused_adds (scanline_part r.xs.now r.ys.now h.bottom h.top a.counts a.region m) (nodes_out r.xs.now r.ys.now h.bottom h.top a.counts a.region m (decided r.xs.now r.ys.now c.requires.decided) (sym c.has_room.ensures ∙ c.if-not-has_room.true)) refl
 
-pub returns-then-not-has_room-2 : goal.returns-then-not-has_room-2
-returns-then-not-has_room-2 c = let a = c.args in
-    let m = the_mesh a.nx.now a.ny.now a.nz.now a.kinds.now a.places.now a.regions.now in
-    let d = decided a.xs.now a.ys.now c.requires.worked.2 in
-    refused_adds (scanline_part a.xs.now a.ys.now a.z_bottom a.z_top a.counts a.region m) (elements_out a.xs.now a.ys.now a.z_bottom a.z_top a.counts a.region m d (sym c.has_room.ensures ∙ c.if-not-has_room.false) (sym c.has_room-2.ensures ∙ c.if-not-has_room-2.true)) refl
+pub returns-then-not-has_room-2-clause-mesh : goal.returns-then-not-has_room-2-clause-mesh
+returns-then-not-has_room-2-clause-mesh c = let a = c.args in
+    let r = a.bands.ring.ring in
+    let h = a.heights in
+    let m = held a.lists.now in
+    refused_adds (scanline_part r.xs.now r.ys.now h.bottom h.top a.counts a.region m) (elements_out r.xs.now r.ys.now h.bottom h.top a.counts a.region m (decided r.xs.now r.ys.now c.requires.decided) (sym c.has_room.ensures ∙ c.if-not-has_room.false) (sym c.has_room-2.ensures ∙ c.if-not-has_room-2.true)) refl
 
 pub write_bands-requires-clause-room : goal.write_bands-requires-clause-room
 write_bands-requires-clause-room c = let a = c.args in
-    let d = decided a.xs.now a.ys.now c.requires.worked.2 in
-    let r = quad_room a.counts a.n (length a.nx.now) (length a.ny.now) (length a.nz.now) (length a.kinds.now) (length a.places.now) (length a.regions.now) c.requires.lists.0 (sym c.has_room.ensures ∙ c.if-not-has_room.false) (sym c.has_room-2.ensures ∙ c.if-not-has_room-2.false) in
-    (bands_room a.xs.now a.ys.now c.requires.worked.1 d a.counts.nodes (length a.nx.now) r.nodes_x, r.nodes_y)
+    let r = a.bands.ring.ring in
+    let l = a.lists.now in
+    let q = quad_room a.counts a.n (length l.xs.now) (length l.ys.now) (length l.zs.now) (length l.kinds.now) (length l.places.now) (length l.regions.now) c.requires.grows.lists (sym c.has_room.ensures ∙ c.if-not-has_room.false) (sym c.has_room-2.ensures ∙ c.if-not-has_room-2.false) in
+    (bands_room r.xs.now r.ys.now (decided r.xs.now r.ys.now c.requires.decided) a.counts.nodes (length l.xs.now) q.nodes_x, q.nodes_y)
 
-pub returns : goal.returns
-returns c = let a = c.args in
-    let m = the_mesh a.nx.now a.ny.now a.nz.now a.kinds.now a.places.now a.regions.now in
-    let d = decided a.xs.now a.ys.now c.requires.worked.2 in
-    quads_add a.xs.now a.ys.now a.z_bottom a.z_top a.counts a.region m d (sym c.has_room.ensures ∙ c.if-not-has_room.false) (sym c.has_room-2.ensures ∙ c.if-not-has_room-2.false) c.requires.worked.1 c.write_bands.ensures.0 c.write_bands.ensures.1 c.write_heights.ensures c.fill.ensures c.write_pairs.ensures c.fill-2.ensures
+pub returns-clause-mesh : goal.returns-clause-mesh
+returns-clause-mesh c = let a = c.args in
+    let r = a.bands.ring.ring in
+    let h = a.heights in
+    quads_add r.xs.now r.ys.now h.bottom h.top a.counts a.region (held a.lists.now) (decided r.xs.now r.ys.now c.requires.decided) (sym c.has_room.ensures ∙ c.if-not-has_room.false) (sym c.has_room-2.ensures ∙ c.if-not-has_room-2.false) c.write_bands.ensures.0 c.write_bands.ensures.1 c.write_heights.ensures c.fill.ensures c.write_pairs.ensures c.fill-2.ensures

@@ -1,5 +1,5 @@
 -- `reach` meets its contract: two folds in one loop. Assumes nothing.
-use Rattle.std.proofs.Common.{◌∙◌, ◌≡◌, true, false, arith}
+use Rattle.std.proofs.Common.{◌∙◌, ◌≡◌, true, false, length, arith}
 use Rattle.std.specs.Float.{inf}
 use Rattle.lists.proofs.Folds.{fold_start, fold_more, fold_end}
 use Rattle.meshing.proofs.VolumeLaws.{low, high, reach_is}
@@ -18,5 +18,5 @@ loop-k-preserved c = let a = c.args in
 
 pub returns : goal.returns
 returns c = let a = c.args in
-    let e : c.loop-k.k ≡ a.n = omega arith in
-    reach_is a.l.now a.n a.places.now (fold_end (low a.l.now a.places.now) (inf false) c.loop-k.invariant.0 e) (fold_end (high a.l.now a.places.now) (inf true) c.loop-k.invariant.1 e)
+    let e : c.loop-k.k ≡ length a.places.now = omega arith in
+    reach_is a.l.now (length a.places.now) a.places.now (fold_end (low a.l.now a.places.now) (inf false) c.loop-k.invariant.0 e) (fold_end (high a.l.now a.places.now) (inf true) c.loop-k.invariant.1 e)

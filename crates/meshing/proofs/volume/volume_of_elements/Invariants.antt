@@ -5,4 +5,4 @@ use Rattle.meshing.proofs.VolumeLaws.{with_element}
 use Rattle.meshing.proofs.volume.volume_of_elements.Given as goal
 
 abbrev pub invariant-loop-e : goal.invariant-loop-e
-invariant-loop-e l = l.sum ≡ fold_below l.e (with_element l.xs l.ys l.zs l.kinds l.places) zero64
+invariant-loop-e l = let m = l.mesh.mesh.lists in l.sum ≡ fold_below l.e (with_element m.xs.now m.ys.now m.zs.now m.kinds.now m.places.now) zero64

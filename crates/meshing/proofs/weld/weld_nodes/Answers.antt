@@ -1,42 +1,43 @@
 -- `weld_nodes` meets its contract: each way out is a row of the definition. Assumes nothing.
-use Rattle.std.proofs.Common.{◌≡◌, true, sym, ap, ◌∙◌, arith}
+use Rattle.std.proofs.Common.{◌≡◌, true, false, sym, ap, ◌∙◌, arith}
 use Rattle.std.proofs.lemmas.Grind.{common_steps}
-use Rattle.lists.specs.Answer.{given}
 use Rattle.binary64.specs.Numbers.{at_most}
-use Rattle.openrdson_core.specs.Mesh.{the_mesh, parallel}
-use Rattle.openrdson_core.proofs.MeshLaws.{equal_lengths}
-use Rattle.meshing.specs.Whole.{mesh_fault}
-use Rattle.meshing.proofs.WeldLaws.{weld_uneven, weld_faulty, weld_goes_on, fine_weldable}
+use Rattle.openrdson_core.specs.Mesh.{read, held, parallel}
+use Rattle.meshing.proofs.WholeLaws.{fault_by_size, fault_by_number, fault_by_contents}
+use Rattle.meshing.specs.Whole.{contents_fault}
+use Rattle.meshing.proofs.WeldLaws.{weld_uneven, weld_faulty, weld_follows}
 use Rattle.meshing.proofs.weld.weld_nodes.Goals as goal
 
-pub returns-then-not-lists_parallel : goal.returns-then-not-lists_parallel
-returns-then-not-lists_parallel c = weld_uneven _ _ _ (grind (arith, common_steps))
+pub returns-then-not-is_parallel-clause-welded : goal.returns-then-not-is_parallel-clause-welded
+returns-then-not-is_parallel-clause-welded c = weld_uneven _ _ _ (grind (arith, common_steps))
 
-pub returns-in_err-mesh_check : goal.returns-in_err-mesh_check
-returns-in_err-mesh_check c =
-    let a = c.args in
-    let m = the_mesh a.xs.now a.ys.now a.zs.now a.kinds.now a.places.now a.regions.now in
-    let lent = the_mesh a.out_x.now a.out_y.now a.out_z.now a.out_kinds.now a.out_places.now a.out_regions.now in
+pub returns-in_err-mesh-clause-welded : goal.returns-in_err-mesh-clause-welded
+returns-in_err-mesh-clause-welded c =
+    let m = read c.args.mesh in
+    let lent = held c.args.out.now in
     let even : parallel lent ≡ true = grind (arith, common_steps) in
-    weld_faulty m a.tolerance lent even (ap (λ b. mesh_fault b m) (sym c.coordinate_in_range-in_range.ensures) ∙ sym c.in_err-mesh_check.ensures) (grind (arith, common_steps))
+    weld_faulty m c.args.tolerance lent even (fault_by_size m (at_most 20 c.args.tolerance) c.in_err-mesh.ensures.size) (grind (arith, common_steps))
 
-pub weld_checked-requires : goal.weld_checked-requires
-weld_checked-requires c =
-    let a = c.args in
-    let m = the_mesh a.xs.now a.ys.now a.zs.now a.kinds.now a.places.now a.regions.now in
-    let lent = the_mesh a.out_x.now a.out_y.now a.out_z.now a.out_kinds.now a.out_places.now a.out_regions.now in
+pub returns-then-not-coordinate_in_range-clause-welded : goal.returns-then-not-coordinate_in_range-clause-welded
+returns-then-not-coordinate_in_range-clause-welded c =
+    let m = read c.args.mesh in
+    let lent = held c.args.out.now in
     let even : parallel lent ≡ true = grind (arith, common_steps) in
-    let fine : mesh_fault (at_most 20 a.tolerance) m ≡ given tt = rw (← c.coordinate_in_range-in_range.ensures) (sym c.in_ok-mesh_check.ensures) in
-    let w = fine_weldable (at_most 20 a.tolerance) m fine in
-    let l = equal_lengths _ _ _ _ _ _ w.even in
-    let o = equal_lengths _ _ _ _ _ _ even in
-    (sym l.same_ys, sym l.same_zs, w.few, sym l.same_regions, l.eight_places, sym o.same_ys, sym o.same_zs, sym o.same_regions, o.eight_places)
+    let out : at_most 20 c.args.tolerance ≡ false = grind (arith, common_steps) in
+    weld_faulty m c.args.tolerance lent even (fault_by_number m c.in_ok-mesh.ensures.size out) (grind (arith, common_steps))
 
-pub returns : goal.returns
-returns c =
-    let a = c.args in
-    let m = the_mesh a.xs.now a.ys.now a.zs.now a.kinds.now a.places.now a.regions.now in
-    let lent = the_mesh a.out_x.now a.out_y.now a.out_z.now a.out_kinds.now a.out_places.now a.out_regions.now in
+pub returns-in_err-mesh-2-clause-welded : goal.returns-in_err-mesh-2-clause-welded
+returns-in_err-mesh-2-clause-welded c =
+    let m = read c.args.mesh in
+    let lent = held c.args.out.now in
     let even : parallel lent ≡ true = grind (arith, common_steps) in
-    let fine : mesh_fault (at_most 20 a.tolerance) m ≡ given tt = rw (← c.coordinate_in_range-in_range.ensures) (sym c.in_ok-mesh_check.ensures) in
-    rw (weld_goes_on m a.tolerance lent even fine) c.weld_checked.ensures
+    let fits : at_most 20 c.args.tolerance ≡ true = grind (arith, common_steps) in
+    weld_faulty m c.args.tolerance lent even (fault_by_contents m c.in_ok-mesh.ensures.size fits ∙ ap contents_fault (sym c.in_ok-mesh.ensures.lists) ∙ sym c.in_err-mesh-2.ensures.fault) (grind (arith, common_steps))
+
+pub returns-clause-welded : goal.returns-clause-welded
+returns-clause-welded c =
+    let m = read c.args.mesh in
+    let lent = held c.args.out.now in
+    let even : parallel lent ≡ true = grind (arith, common_steps) in
+    let fits : at_most 20 c.args.tolerance ≡ true = grind (arith, common_steps) in
+    weld_follows m c.args.tolerance lent even c.in_ok-mesh.ensures.size fits c.in_ok-mesh.ensures.lists c.in_ok-mesh-2.ensures.fault c.in_ok-mesh-2.ensures.lists c.weld_checked.ensures.welded

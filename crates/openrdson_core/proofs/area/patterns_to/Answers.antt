@@ -1,5 +1,4 @@
 -- A turn is `small_more`.
-use Rattle.std.proofs.Common.{arith}
 use Rattle.openrdson_core.proofs.SumLaws.{whole_before, small_more}
 use Rattle.openrdson_core.proofs.area.patterns_to.Goals as goal
 

@@ -10,11 +10,3 @@ unfolding fills_corners
 returns-then-not-on_some_corner c =
     rw (all_fails (λ k. on_some_corner c.args.bounds c.args.eps (point_at c.args.ring.xs.now c.args.ring.ys.now k)) (length c.args.ring.xs.now) 0 (omega arith)
     (ap (on_some_corner c.args.bounds c.args.eps) (sym c.point.ensures) ∙ sym c.on_some_corner.ensures ∙ c.if-not-on_some_corner.true))
-
-pub returns-then-not-all_on_corners : goal.returns-then-not-all_on_corners
-unfolding fills_corners
-returns-then-not-all_on_corners c = rw (sym c.all_on_corners.ensures ∙ c.if-not-all_on_corners.true)
-
-pub returns : goal.returns
-unfolding fills_corners
-returns c = rw (sym c.all_on_corners.ensures ∙ c.if-not-all_on_corners.false) c.all_corners_taken.ensures

@@ -1,0 +1,7 @@
+use Rattle.std.proofs.Common.{◌≡◌, ◌+◌}
+use Rattle.lists.specs.Lists.{all_below}
+use Rattle.openrdson_core.specs.Points.{point_at, point_in}
+use Rattle.openrdson_core.proofs.area.are_in_range.Given as goal
+
+abbrev pub invariant-loop-k : goal.invariant-loop-k
+invariant-loop-k l = l.fine ≡ all_below l.k (λ k. point_in (point_at l.ring.xs.now l.ring.ys.now (l.from + k)))

@@ -1,0 +1,2 @@
+-- What stands in a list before anything is written in it.
+pub mod Nines
