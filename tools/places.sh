@@ -3,7 +3,8 @@
 #   tools/places.sh          the table, a row for each crate
 #   tools/places.sh N        how many places point N has
 #   tools/places.sh N list   the places, a line each, `crate/file: item  what`
-#   tools/places.sh new      how often today's forms stand in the sources
+#   tools/places.sh new      how often the forms that replace them stand in the sources
+#   tools/places.sh proofs   the proof files of each crate
 # out/ folders do not count: sources are crates/*/src/*.rt, and proofs are what git tracks.
 cd "$(git rev-parse --show-toplevel)" || exit 1
 
@@ -24,17 +25,20 @@ fns() { items fn; }
 # Functions whose text has a match. $1: what; $2: regex; $3: paths or names left out (regex).
 having() { fns | awk -F '\t' -v what="$1" -v re="$2" -v no="${3:-^$}" '($1 ": " $2) !~ no && $3 ~ re { print $1 ": " $2 "  " what }'; }
 
+# Such a line's three parts: the regex may have a | too.
+parts='function parts(line, f) { f[1] = f[2] = f[3] = line; sub(/[|].*/, "", f[1]); sub(/^[^|]*[|]/, "", f[2]); sub(/[|][^|]*$/, "", f[2]); sub(/^.*[|]/, "", f[3]) }'
+
 # Of lines `what|regex|path:name ..` on stdin: each named function that is there and has a match. An empty regex matches all.
 named() {
-    awk -F '\t' 'FNR == NR { text[$1 ":" $2] = text[$1 ":" $2] $3; next }
-        { split($0, f, "|"); n = split(f[3], g, " ")
+    awk -F '\t' "$parts"'FNR == NR { text[$1 ":" $2] = text[$1 ":" $2] $3; next }
+        { parts($0, f); n = split(f[3], g, " ")
           for (i = 1; i <= n; i++) if (g[i] in text && text[g[i]] ~ f[2]) { x = g[i]; sub(/:/, ": ", x); print x "  " f[1] } }' <(fns) -
 }
 
 # Of such lines: each that has two or more functions left, as one place, in the crate of the first.
 families() {
-    awk -F '\t' 'FNR == NR { text[$1 ":" $2] = text[$1 ":" $2] $3; next }
-        { split($0, f, "|"); n = split(f[3], g, " "); left = ""; k = 0
+    awk -F '\t' "$parts"'FNR == NR { text[$1 ":" $2] = text[$1 ":" $2] $3; next }
+        { parts($0, f); n = split(f[3], g, " "); left = ""; k = 0
           for (i = 1; i <= n; i++) if (g[i] in text && text[g[i]] ~ f[2]) { left = left " " g[i]; k++ }
           if (k > 1) { x = left; sub(/^ /, "", x); sub(/ .*/, "", x); sub(/:.*/, "", x); print x ": " k " functions  " f[1] ":" left } }' <(fns) -
 }
@@ -61,7 +65,7 @@ sentinel: the place past the last for a failed write|SIZE|sample/out.rt:written 
 flag list beside value lists|== 0|geometry/table.rt:plan_at
 flag list beside value lists|outcome\(\)|geometry/table.rt:fill_plans
 LIST
-    having 'number for a kind' '[( ]kind: u(8|64)[,)]|kinds\[[a-z]\] [!=]= [0-9]|kind [!=]= [0-9]|outcome: u8|-> u8 .*(Skipped|Box)|Skipped\([0-9]\)|fill_bytes\(kinds, [^;]*, [0-9]\)|column: u8' \
+    having 'number for a kind' '[( ]kind: u(8|64)[,)]|kinds\[[a-z]\] [!=]= [0-9]|kind [!=]= [0-9]|outcome: u8|-> u8 .*(Skipped|Box)|Skipped\([0-9]\)|fill(_bytes)?\((lists\.)?kinds, [^;]*, [0-9]\)|column: u8' \
         'c_api/|geometry/(rows.rt: kind_of|regions.rt: region_at)|openrdson_core/mesh.rt: (element_type|used_places)'
     having 'number for a call' '[( ]call: u64[,)]|call [<>=!]+ [0-9]|call < |word\(record, 0\) [<>=]+ [0-9]|match word\(record, 0\)'
     having 'number for a refusal' '[( ]number: u32\) -> bool'
@@ -86,8 +90,8 @@ direction||openrdson_core/bounds.rt:lesser openrdson_core/bounds.rt:greater
 axis||openrdson_core/bounds.rt:width openrdson_core/bounds.rt:height
 the same twice||openrdson_core/bounds.rt:extend openrdson_core/bounds.rt:union
 kind of cells, once or not||openrdson_core/tech.rt:is_stack openrdson_core/tech.rt:is_vias openrdson_core/maps.rt:is_map openrdson_core/layout.rt:is_layer_names
-key and width|while|openrdson_core/blocks.rt:find_row openrdson_core/layout.rt:find_pattern
-all cells pass|while|openrdson_core/blocks.rt:all_cells openrdson_core/tech.rt:is_stack_in openrdson_core/blocks.rt:is_new
+key and width|while |for [a-z]+ in |openrdson_core/blocks.rt:find_row openrdson_core/blocks.rt:find openrdson_core/layout.rt:find_pattern
+all cells pass|while |for [a-z]+ in |openrdson_core/blocks.rt:all_cells openrdson_core/tech.rt:is_stack_in openrdson_core/tech.rt:is_in_range openrdson_core/blocks.rt:is_new
 where a row's name stands|32|openrdson_core/maps.rt:find_in_map openrdson_core/layout.rt:find_layer_name openrdson_core/layout.rt:layer_name_at
 a figure's test|present: bool|openrdson_core/blocks.rt:is_figure openrdson_core/tech.rt:is_figure_in
 the two figures of an entry|c\[1\.\.9\]|openrdson_core/blocks.rt:is_stack_entry openrdson_core/tech.rt:are_figures_in openrdson_core/tech.rt:entry_at
@@ -98,7 +102,7 @@ column of a plan|match self|geometry/table.rt:outcome geometry/table.rt:z_bottom
 which fallback|find_stack_layer|geometry/ranges.rt:diffusion_range geometry/ranges.rt:layer_range
 two values, both present|ZRange|geometry/ranges.rt:from_to geometry/ranges.rt:between
 columns of a solid|match solid|geometry/rows.rt:kind_of geometry/rows.rt:sides_of geometry/rows.rt:part_of
-a row, read twice|kind == 0|geometry/regions.rt:region_at geometry/volume.rt:row_volume
+a row, read twice||geometry/regions.rt:region_at geometry/regions.rt:region geometry/volume.rt:row_volume geometry/volume.rt:volume
 a part is checked: 15, then the ring|start: u32|geometry/polygons.rt:polygon_check meshing/prism.rt:part_check openrdson_core/solids.rt:points_check
 lengths are equal|==|geometry/regions.rt:are_regions_even geometry/polygons.rt:are_polygons_even
 type of entries|while|meshing/writes.rt:copy_bytes meshing/writes.rt:copy_words meshing/writes.rt:copy_reals
@@ -108,14 +112,14 @@ direction||meshing/ring.rt:next_place meshing/ring.rt:prev_place
 what is done with the cleaned ring|is_clean|meshing/prism.rt:mesh_part meshing/prism.rt:mesh_slanted
 a ring is cleaned into two lists|kept_places.*gather_into.*gather_into|meshing/ring.rt:dedup_ring meshing/prism.rt:mesh_part meshing/prism.rt:mesh_slanted meshing/triangulate.rt:triangulate_checked
 a small ring's room or a large one's|<= 32|meshing/scanline.rt:mesh_scanline meshing/prism.rt:mesh_again meshing/triangulate.rt:clip_ring
-what is done with a band|while|meshing/scanline.rt:tally_bands meshing/scanline.rt:write_bands
-what is done with a quad|while|meshing/quads.rt:tally_quads meshing/quads.rt:write_quads
-step given or worked out||meshing/cells.rt:axis_at meshing/grid.rt:axis_at
-kept in place|while|meshing/levels.rt:drop_close meshing/crossings.rt:keep_spanning meshing/ring.rt:kept_places
-insertion by hand|while|meshing/levels.rt:insert_level meshing/levels.rt:level_slot meshing/crossings.rt:insert_crossing
-count or write|while|meshing/weld.rt:count_kept meshing/weld.rt:write_kept
-a node's key|nearest_capped|meshing/weld.rt:key_at meshing/weld.rt:has_key
-coordinates in range, of two lists or three|fine = fine|openrdson_core/points.rt:points_within meshing/whole.rt:nodes_in_range
+what is done with a band||meshing/scanline.rt:tally_bands meshing/scanline.rt:write_bands
+what is done with a quad||meshing/quads.rt:tally_quads meshing/quads.rt:write_quads
+step given or worked out||meshing/cells.rt:axis_at meshing/cells.rt:at meshing/grid.rt:axis_at meshing/grid.rt:node_row
+kept in place||meshing/levels.rt:drop_close meshing/crossings.rt:keep_spanning meshing/ring.rt:kept_places
+insertion by hand||meshing/levels.rt:insert_level meshing/levels.rt:level_slot meshing/crossings.rt:insert_crossing
+count or write||meshing/weld.rt:count_kept meshing/weld.rt:write_kept
+a node's key|nearest_capped|meshing/weld.rt:key_at meshing/weld.rt:key meshing/weld.rt:has_key
+coordinates in range, of two lists or three||openrdson_core/points.rt:points_within openrdson_core/ring.rt:is_within openrdson_core/area.rt:are_in_range meshing/whole.rt:nodes_in_range meshing/whole.rt:is_in_range
 the same with no override||meshing/model.rt:mesh_model meshing/model.rt:mesh_model_with_options
 a value through one reference|why.number\(\)|c_api/answers.rt:give_number c_api/answers.rt:give_truth c_api/answers.rt:give_material c_api/boxes.rt:give_cells c_api/polygons.rt:give_points c_api/stacks.rt:give_count
 a value through more references|why.number\(\)|c_api/answers.rt:give_bounds c_api/answers.rt:give_found c_api/answers.rt:give_name c_api/answers.rt:give_part c_api/answers.rt:give_layer c_api/answers.rt:give_via c_api/polygons.rt:give_counts c_api/boxes.rt:give_grown c_api/regions.rt:give_region
@@ -182,20 +186,19 @@ nodes without elements|weld_nodes|worked_welds/main.rt:halves worked_welds/main.
 LIST
 }
 
-# 3. Loops that count an index by hand: every `while` and `loop`, but for those that count nothing.
-# binary64's double m, and correct a root; read_on goes on by as much as was read.
+# 3. Loops that count an index by hand: every `while` and `loop`, but for those in the two places that the last line names, which count nothing.
 p3() {
     awk 'FNR == 1 { name = "" } /^ *\/\// { next }
         /^ *(pub )?(extern "C" )?fn / { name = $0; sub(/^.*fn /, "", name); sub(/[^A-Za-z0-9_].*/, "", name) }
         /^ *(\x27[a-z]+: )?(while|loop) / { p = FILENAME; sub(/^crates\//, "", p); sub(/\/src\//, "/", p)
             t = $0; sub(/^ +/, "", t); sub(/ \{$/, "", t); print p ": " name "  " t }' crates/*/src/*.rt |
-        grep -vE '^binary64/root.rt: |^records/input.rt: read_on '
+        grep -vE '^binary64/root.rt: |^records/(input|replay).rt: read_on '
 }
 
 # 4. Equality, order, copying, conversion and printing written by hand, and numbers' methods that std has (`abs`, `sqrt`, `ceil`, `round`).
 p4() {
     named <<'LIST'
-equality|while|openrdson_core/bytes.rt:is_same openrdson_core/bytes.rt:starts_with openrdson_core/bytes.rt:contains
+equality|while |for [a-z]+ in |openrdson_core/bytes.rt:is_same openrdson_core/bytes.rt:starts_with openrdson_core/bytes.rt:contains
 conversion|as u64|openrdson_core/bytes.rt:wide openrdson_core/layout.rt:pattern
 conversion|while|openrdson_core/bytes.rt:little
 conversion|== 0|openrdson_core/mesh.rt:element_type
@@ -217,9 +220,10 @@ equality|== kinds|geometry/regions.rt:are_regions_even
 equality|== layers|geometry/polygons.rt:are_polygons_even
 copy|while|meshing/writes.rt:copy_bytes meshing/writes.rt:copy_words meshing/writes.rt:copy_reals meshing/writes.rt:fill_bytes meshing/writes.rt:fill_words meshing/writes.rt:fill_reals
 copy|at \+ 7|meshing/grid.rt:write_eight meshing/quads.rt:write_eight
-copy|while|meshing/crossings.rt:turn_round meshing/ears.rt:remove_at meshing/levels.rt:insert_level
+copy|while|meshing/crossings.rt:turn_round meshing/ears.rt:remove_at
+copy||meshing/levels.rt:insert_level
 order|d < e|meshing/crossings.rt:goes_before
-order|while|meshing/crossings.rt:insert_crossing meshing/levels.rt:level_slot
+order||meshing/crossings.rt:insert_crossing meshing/levels.rt:level_slot
 order|v < least|meshing/volume.rt:reach
 equality|!= key|meshing/weld.rt:has_key
 conversion|match meshed|meshing/model.rt:diagnostic meshing/model.rt:counts_after
@@ -351,8 +355,8 @@ p6() {
     having 'array as the result, of which the caller uses a part' '-> \[[a-z0-9]+; (16|1024)\]' 'sample/'
     having 'buffer and the place in it' 'buffer: &mut \[u8; SIZE\], at: usize'
     named <<'LIST'
-searched by hand|while|openrdson_core/blocks.rt:find_row openrdson_core/blocks.rt:is_new openrdson_core/layout.rt:find_pattern meshing/weld.rt:find_key meshing/model.rt:config_for
-sorted by hand|while|meshing/levels.rt:level_slot meshing/levels.rt:insert_level meshing/crossings.rt:insert_crossing meshing/crossings.rt:sort_crossings
+searched by hand|while |for [a-z]+ in |openrdson_core/blocks.rt:find_row openrdson_core/blocks.rt:find openrdson_core/blocks.rt:is_new openrdson_core/layout.rt:find_pattern meshing/weld.rt:find_key meshing/weld.rt:find meshing/model.rt:config_for
+sorted by hand||meshing/levels.rt:level_slot meshing/levels.rt:insert_level meshing/crossings.rt:insert_crossing meshing/crossings.rt:sort_crossings
 indices of another list|usize\]|meshing/ears.rt:first_ear meshing/ears.rt:clip_walk meshing/ears.rt:remove_at meshing/crossings.rt:cross meshing/ring.rt:gather_into meshing/triangulate.rt:fill_walk
 LIST
     p5 | awk -F '  ' '$2 ~ /^group/ && $1 ~ /: (xs, ys|point_x, point_y|the six mesh lists|the twelve region lists|the four plan lists|the three override lists|layers, nets, starts, counts|cases, mismatches|levels, edges, at: room to work in|kept_x, kept_y, kept_z)$/ { print $1 "  parallel arrays" }'
@@ -394,21 +398,7 @@ p8_table() {
     done
 }
 
-# Today's forms in the sources, by regex.
-table() {
-    echo '| Crate | Answers.antt | their lines | single answers | longest line | lines above 160 | Invariants.antt | their lines | lemma files | their lines | files that import mathlib, Prim, native, lib, borrow or mir |'
-    echo '|---|---|---|---|---|---|---|---|---|---|---|'
-    for c in $(ls crates) '*'; do
-        a=$(proofs "$c" | grep '/Answers.antt$'); i=$(proofs "$c" | grep '/Invariants.antt$'); o=$(proofs "$c" | grep -vE '/(Answers|Invariants).antt$')
-        [ -z "$a$i$o" ] && continue
-        lines() { echo "$1" | xargs -r cat | wc -l; }; n() { echo "$1" | grep -c .; }
-        long=$(echo "$a" | xargs -r cat | awk '{ l = length($0); if (l > m) m = l; if (l > 160) k++ } END { print m + 0 " | " k + 0 }')
-        name=$c; [ "$c" = '*' ] && name=all
-        echo "| $name | $(n "$a") | $(lines "$a") | $(singles "$c") | $long | $(n "$i") | $(lines "$i") | $(n "$o") | $(lines "$o") | $(old_imports "$c") |"
-    done
-}
-
-# Today's forms in the sources, by regex.
+# The forms that replace these places, by regex.
 new_forms() {
     while IFS='|' read -r what re; do echo "$what: $(grep -hvE '^ *//' crates/*/src/*.rt | grep -cE -- "$re")"; done <<'LIST'
 lines with Option<|Option<

@@ -16,7 +16,7 @@ import sys
 DECLARED = re.compile(r"^\s*((?:(?:pub|abbrev|unfoldable)\s+)*)([^\s:(){}\[\].,;λ=]+)\s*(?:[({][^\n]*)?\s:\s")
 NAME = r"[^\s(){}\[\].;,@\"«»:]+"
 KEYWORDS = {"record", "data", "module", "use", "let", "elim", "where", "unfolding", "infixl", "infixr", "mod"}
-# names whose parts the kit has respelled
+# names of which the kit spells a part in its own way
 PARTS = {"getD": "get_or"}
 # a lemma that would have its function's name, and a definition that would have a lemma's
 OTHER = {

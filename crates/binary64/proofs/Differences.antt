@@ -1,6 +1,7 @@
--- Laws of operations rounded once, on numbers of any sign. The size of a difference grows with the distance; a difference grows with its first number and falls with its second;
--- a product grows with its factor; a difference has the sign of the order; differences, sums and products of numbers in range are in range. Assumes nothing.
-use Rattle.std.proofs.Common.{◌≡◌, ℕ, zero, suc, ◌+◌, ◌-◌, ◌*◌, ◌^◌, ◌<◌, ◌≤◌, Bool, true, false, cond, not, T, ltb, ℤ, pos, sym, refl, ap, ◌∙◌, subst, inl, inr, le_of_eq, le_refl, lt_irrefl, mul-le-mul_right, zero-lt-suc, mul_comm, eq-zero-or-pos, mul-le-mul, add_comm, mul-pos, one-mul, zero-mul, mul-one, arith, ltb→lt, lt→ltb, pow_pos, pow-add, ltb-false, ltb-true, leb-true}
+-- Laws of operations rounded once, on numbers of any sign. The size of a difference grows with the distance; a difference grows with its first number
+-- and falls with its second; a product grows with its factor; a difference has the sign of the order; differences, sums and products of numbers in range
+-- are at most a power of two in size. Assumes nothing.
+use Rattle.std.proofs.Common.{◌≡◌, ℕ, zero, suc, ◌+◌, ◌-◌, ◌*◌, ◌^◌, ◌<◌, ◌≤◌, Bool, true, false, cond, not, ◌&&◌, T, ltb, ℤ, pos, sym, refl, ap, ◌∙◌, subst, inl, inr, le_of_eq, le_refl, lt_irrefl, mul-le-mul_right, zero-lt-suc, mul_comm, eq-zero-or-pos, mul-le-mul, add_comm, mul-pos, one-mul, zero-mul, mul-one, arith, ltb→lt, lt→ltb, pow_pos, pow-add, ltb-false, ltb-true, leb-true}
 use native.Mathlib.Nat.{two-pow-succ, mul-mul-mul_comm}
 use lib.Pow.{pow-lt}
 use lib.Ieee.{Float, nan, inf, fin, Format, binary64, prec, low, emax, up, down, odd, units, round, neg, sum, add, sub, mul, unlike, lt, le, of_bits}
@@ -516,6 +517,36 @@ abs_minus (inf true) h = tt
 abs_minus (inf false) h = h
 abs_minus (fin true m e) h = uncross true true (m * up e) (m * up e) (down e) (down e) (omega arith)
 abs_minus (fin false m e) h = uncross false true (m * up e) (m * up e) (down e) (down e) (vanished (m * up e) (down e) (above_none (m * up e) (down e) (cross false false (m * up e) (0 * 1) (down e) 1 h)))
+
+-- of a difference that is not below zero, or not above it, one comparison tells whether its size is at most e
+none_left : (a d : ℕ) → a ≡ 0 → 0 * 1 * d + a * 1 ≤ 0 * 1 + 0 * d
+none_left a d z = omega arith
+
+neg_minus : (e : Float) → T (le (neg e) nought) → T (le nought e)
+unfolding neg le
+neg_minus nan h = h
+neg_minus (inf true) h = h
+neg_minus (inf false) h = tt
+neg_minus (fin true m e) h = uncross false true (0 * 1) (m * up e) 1 (down e) (none_left (m * up e) (down e) (above_none (m * up e) (down e) (cross false false (m * up e) (0 * 1) (down e) 1 h)))
+neg_minus (fin false m e) h = plus_le m e
+
+pub within_above : (d e : Float) → le (fin false 0 (pos 0)) d ≡ true → le (abs d) e ≡ le d e
+within_above d e h = within_abs d e ∙ go (le d e) refl
+  where
+    go : (b : Bool) → le d e ≡ b → (b && le (neg e) d) ≡ b
+    go true p = within_low d e (le_trans (abs d) d e (is_true (le (abs d) d) (abs_plus d (holds (le nought d) h))) p)
+    go false p = refl
+
+pub within_under : (d e : Float) → le d (fin false 0 (pos 0)) ≡ true → le (abs d) e ≡ le (neg e) d
+within_under d e h = within_abs d e ∙ go (le (neg e) d) refl
+  where
+    go : (b : Bool) → le (neg e) d ≡ b → (le d e && b) ≡ b
+    go true p = both (le d e) true (le_trans d nought e h (is_true (le nought e) (neg_minus e (holds (le (neg e) nought) (le_trans (neg e) d nought p h))))) refl
+    go false p = and_none (le d e)
+      where
+        and_none : (a : Bool) → (a && false) ≡ false
+        and_none true = refl
+        and_none false = refl
 
 pub difference_mono : (k : ℕ) (a b c d : Float) → at_most k a ≡ true → at_most k b ≡ true → at_most k c ≡ true → at_most k d ≡ true → le a c ≡ true → le d b ≡ true → le (a ⊖ b) (c ⊖ d) ≡ true
 difference_mono k a b c d A B C D h g = go (le b a) (le d c) refl refl

@@ -1,4 +1,5 @@
--- Laws of `nearest_capped`: a number is rounded, halves away from zero, by its doubled size cut to a whole number. A number doubled is exact, and one too large for that is capped. Assumes nothing.
+-- Laws of `nearest_capped`: a number is rounded, halves away from zero, by its doubled size cut to a whole number. A number doubled is exact, and one too
+-- large for that is capped. Assumes nothing.
 use Rattle.std.proofs.Common.{◌≡◌, ℕ, zero, suc, ◌+◌, ◌-◌, ◌*◌, ◌/◌, ◌%◌, ◌^◌, ◌<◌, ◌≤◌, min, Bool, true, false, T, ℤ, pos, neg_ℤ, sym, refl, ap, ◌∙◌, subst, lt_of_lt_of_le, mul-le-mul_right, mul_assoc, div-lt_iff_lt-mul, add-mul, lt_of_mul-lt-mul_right, mul-lt-mul_of_pos_right, mul-pos, le-div_iff_mul-le, mul-add, mul_right_comm, arith, lit≤, pow_pos, w64, leb→le, eqb→eq, ◌-ℤ◌, eqb, lt_of_not-le}
 use lib.IntN.{◌+ℤ◌, +ℤ_idl}
 use native.Mathlib.Decide.{dec_le}

@@ -1,4 +1,5 @@
--- No other binary64 number is as near to the root of a number above zero as its rounded root: the neighbours of the rounded root are past the middles. Assumes nothing.
+-- No other binary64 number is as near to the root of a number above zero as its rounded root: the neighbours of the rounded root are past the middles.
+-- Assumes nothing.
 use Rattle.std.proofs.Common.{◌≡◌, ℕ, zero, suc, ◌+◌, ◌-◌, ◌*◌, ◌/◌, ◌%◌, ◌^◌, ◌<◌, ◌≤◌, false, T, sym, ap, ◌∙◌, subst, inl, inr, le_trans, le_of_eq, lt_of_lt_of_le, lt_of_le_of_lt, le_of_lt, mul-le-mul_right, mul_assoc, mul-le-mul, lt_of_mul-lt-mul_right, eq-or-lt_of_le, mul-lt-mul_of_pos_right, mul-pos, lt_of_not-le, sub-add_cancel, mul_right_comm, not-le_of_lt, le_of_mul-le-mul_right, arith, pow_pos, pow_mono, pow-add}
 use native.Mathlib.Nat.{mul-mul-mul_comm, eq_of_mul-eq-mul_right}
 use native.Mathlib.Decide.{dec_le}

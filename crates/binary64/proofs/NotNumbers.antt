@@ -1,4 +1,4 @@
--- A not-a-number passes on: what a sum, a difference or a product was made of is a number where the result is one. A number is what is at most itself. Assumes nothing.
+-- Where a sum, a difference or a product is a number, so is what it was made of. A number is what is at most itself. Assumes nothing.
 use Rattle.std.proofs.Common.{◌≡◌, true, false, sym, refl, ap, ◌∙◌}
 use lib.Ieee.{Float, nan, inf, fin, neg, add, sub, mul, le, ne}
 use Rattle.binary64.specs.Numbers.{◌⊕◌, ◌⊖◌, ◌⊗◌}

@@ -1,4 +1,5 @@
--- Laws of the order of all binary64 values, not-a-number and infinities included: what `<=` and `<` say of each other, transitivity, and `at_most` as an interval. Assumes nothing.
+-- Laws of the order of all binary64 values, not-a-number and infinities included: what `<=` and `<` say of each other, transitivity, and `at_most` as an
+-- interval. Assumes nothing.
 use Rattle.std.proofs.Common.{◌≡◌, ℕ, ◌+◌, ◌*◌, ◌<◌, ◌≤◌, Bool, true, false, not, ◌&&◌, ◌||◌, T, eqb, ltb, leb, pos, sym, refl, ap, ◌∙◌, subst, mul-le-mul_right, zero-mul, le_of_mul-le-mul_right, arith, le→leb, eqb→eq, ltb→lt, lt→ltb, leb→le, le-leb, leb-false}
 use lib.Dec.{eqb_refl, not_T, nleb→lt}
 use lib.Ieee.{Float, neg, nan, inf, fin, up, down, lt, eq, le, below, level}

@@ -1,7 +1,7 @@
--- The digits and the exponent that the bit pattern of a binary64 number above zero holds, and the rounded root by them. What bit 62 tells of a number's size. Assumes nothing.
+-- The digits and the exponent that the bit pattern of a binary64 number above zero holds, and the rounded root by them. What a pattern's upper half, and its
+-- bit 62, tell of a number's size. Assumes nothing.
 use Rattle.std.proofs.Common.{◌≡◌, ℕ, zero, suc, ◌+◌, ◌-◌, ◌*◌, ◌/◌, ◌%◌, ◌^◌, ◌<◌, ◌≤◌, Bool, true, false, cond, not, T, eqb, leb, sym, refl, ap, ◌∙◌, subst, le_trans, le_of_eq, mul-le-mul_right, mod-lt, mod-eq_of_lt, mul_assoc, mul-le-mul, one-mul, mul_right_comm, le_of_mul-le-mul_right, arith, lit≤, pow_pos, pow_mono, pow-add, ne_eqb, le-leb, leb-false}
 use lib.Dec.{eqb_refl}
-use lib.Bits.{bit_or, or_shr, or_mod, or_add_and, and_le_l, and_le_r}
 use lib.Ieee.{Float, nan, inf, fin, binary64, up, down, odd, of_fields, of_bits, to_bits, sqrt, is_nan, fits, le}
 use lib.Ieee.Fits.{down_pos, round-fits}
 use lib.Ieee.Bits.{of_bits-to_bits}
@@ -147,48 +147,51 @@ scale_of x b w =
     most : (q : ℕ) → q ≤ 2046 → q - 1 + 126 ≤ 2171
     most q h = omega arith
 
--- ---- bit 62, the exponent's first: where it is clear, the exponent's field is below 1024, and the number below 2 in size
-pub clear_or : (a b : ℕ) → bit_or a b / 2 ^ 62 % 2 ≡ 0 → (a / 2 ^ 62 % 2 ≡ 0) × (b / 2 ^ 62 % 2 ≡ 0)
-clear_or a b h = none (a / 2 ^ 62 % 2) (b / 2 ^ 62 % 2) (sym (ap (λ (z : ℕ). z % 2) (or_shr a b 62) ∙ or_mod (a / 2 ^ 62) (b / 2 ^ 62) 1) ∙ h)
-  where
-    none : (x y : ℕ) → bit_or x y ≡ 0 → (x ≡ 0) × (y ≡ 0)
-    none x y e = (omega (arith, or_add_and x y, and_le_r x y), omega (arith, or_add_and x y, and_le_l x y))
-
-clear_fields : (s : Bool) (X t : ℕ) → X < 1024 → HasValue (of_fields binary64 s X t) s (mantissa X t * 2 ^ (X - 1)) (2 ^ 1074)
+-- ---- the exponent's field of 2^20 is 1043: a number with a lower one is below 2^20 in size. Where bit 62, the field's first, is clear, the field is below 1024
+low_fields : (s : Bool) (X t : ℕ) → X < 1043 → HasValue (of_fields binary64 s X t) s (mantissa X t * 2 ^ (X - 1)) (2 ^ 1074)
 unfolding of_fields
-clear_fields s zero t l = odd_sign 53 s t 0 1074
-clear_fields s (suc x) t l =
+low_fields s zero t l = odd_sign 53 s t 0 1074
+low_fields s (suc x) t l =
     subst (λ (z : ℕ). HasValue (of_fields binary64 s (suc x) t) s ((2 ^ 52 + t) * 2 ^ z) (2 ^ 1074)) (less x)
     (subst (λ (b : Bool). HasValue (cond b (cond (eqb t 0) (inf s) nan) (odd 53 s (2 ^ 52 + t) x 1074)) s ((2 ^ 52 + t) * 2 ^ x) (2 ^ 1074)) (sym (ne_eqb (suc x) 2047 (not_ones x l))) (odd_sign 53 s (2 ^ 52 + t) x 1074))
   where
     less : (x : ℕ) → x ≡ suc x - 1
     less x = omega arith
 
-    not_ones : (x : ℕ) → suc x < 1024 → suc x ≡ 2047 → ⊥
+    not_ones : (x : ℕ) → suc x < 1043 → suc x ≡ 2047 → ⊥
     not_ones x l e = omega arith
 
-small_digits : (X t : ℕ) → X < 1024 → t < 2 ^ 52 → mantissa X t * 2 ^ (X - 1) ≤ 2 ^ 53 * 2 ^ 1022
-small_digits X t l h = let least : X - 1 ≤ 1022 = omega arith in mul-le-mul (few X t h) (pow_mono least)
+small_digits : (X t : ℕ) → X < 1043 → t < 2 ^ 52 → mantissa X t * 2 ^ (X - 1) ≤ 2 ^ 53 * 2 ^ 1041
+small_digits X t l h = let least : X - 1 ≤ 1041 = omega arith in mul-le-mul (few X t h) (pow_mono least)
   where
     few : (X t : ℕ) → t < 2 ^ 52 → mantissa X t ≤ 2 ^ 53
     few zero t h = omega arith
     few (suc x) t h = omega arith
 
-small_value : (x : Float) (s : Bool) (a : ℕ) → a ≤ 2 ^ 53 * 2 ^ 1022 → HasValue x s a (2 ^ 1074) → at_most 20 x ≡ true
+small_value : (x : Float) (s : Bool) (a : ℕ) → a ≤ 2 ^ 53 * 2 ^ 1041 → HasValue x s a (2 ^ 1074) → at_most 20 x ≡ true
 unfolding at_most
 small_value nan s a l v = absurd v
 small_value (inf u) s a l v = absurd v
 small_value (fin u m e) s a l v = le-leb (m * up e) (2 ^ 20 * down e) (le_of_mul-le-mul_right (le_trans (le_of_eq v.1) (le_trans (mul-le-mul_right (down e) (le_trans l (lit≤ tt))) (le_of_eq (mul_right_comm (2 ^ 20) (2 ^ 1074) (down e))))) (pow_pos 1074))
 
-pub clear_pattern : (x : Float) → T (fits binary64 x) → to_bits binary64 x / 2 ^ 62 % 2 ≡ 0 → at_most 20 x ≡ true
+field_pattern : (x : Float) → T (fits binary64 x) → to_bits binary64 x % 2 ^ 63 / 2 ^ 52 < 1043 → at_most 20 x ≡ true
 unfolding of_bits
-clear_pattern x f h =
+field_pattern x f l =
     let b = to_bits binary64 x in
-    let l : b % 2 ^ 63 / 2 ^ 52 < 1024 = field b h in
     small_value x (leb (2 ^ 63) b) (mantissa (b % 2 ^ 63 / 2 ^ 52) (b % 2 ^ 52) * 2 ^ (b % 2 ^ 63 / 2 ^ 52 - 1)) (small_digits (b % 2 ^ 63 / 2 ^ 52) (b % 2 ^ 52) l (mod-lt b (pow_pos 52)))
-    (subst (λ (y : Float). HasValue y (leb (2 ^ 63) b) (mantissa (b % 2 ^ 63 / 2 ^ 52) (b % 2 ^ 52) * 2 ^ (b % 2 ^ 63 / 2 ^ 52 - 1)) (2 ^ 1074)) (of_bits-to_bits binary64 x f) (clear_fields (leb (2 ^ 63) b) (b % 2 ^ 63 / 2 ^ 52) (b % 2 ^ 52) l))
+    (subst (λ (y : Float). HasValue y (leb (2 ^ 63) b) (mantissa (b % 2 ^ 63 / 2 ^ 52) (b % 2 ^ 52) * 2 ^ (b % 2 ^ 63 / 2 ^ 52 - 1)) (2 ^ 1074)) (of_bits-to_bits binary64 x f) (low_fields (leb (2 ^ 63) b) (b % 2 ^ 63 / 2 ^ 52) (b % 2 ^ 52) l))
+
+pub clear_pattern : (x : Float) → T (fits binary64 x) → to_bits binary64 x / 2 ^ 62 % 2 ≡ 0 → at_most 20 x ≡ true
+clear_pattern x f h = field_pattern x f (field (to_bits binary64 x) h)
   where
-    field : (b : ℕ) → b / 2 ^ 62 % 2 ≡ 0 → b % 2 ^ 63 / 2 ^ 52 < 1024
+    field : (b : ℕ) → b / 2 ^ 62 % 2 ≡ 0 → b % 2 ^ 63 / 2 ^ 52 < 1043
+    field b h = omega arith
+
+-- the upper half without the sign, below that of 2^20
+pub low_pattern : (x : Float) → T (fits binary64 x) → to_bits binary64 x / 2 ^ 32 % 2 ^ 31 < 0x4130_0000 → at_most 20 x ≡ true
+low_pattern x f h = field_pattern x f (field (to_bits binary64 x) h)
+  where
+    field : (b : ℕ) → b / 2 ^ 32 % 2 ^ 31 < 0x4130_0000 → b % 2 ^ 63 / 2 ^ 52 < 1043
     field b h = omega arith
 
 -- a number has a pattern

@@ -1,5 +1,5 @@
--- The rounded root from a root of 54 binary digits: with R the root of M * 4 ^ 27, the root of M * 4 ^ h / 4 ^ 600 rounds to (R + 1) / 2, cut, times 2 ^ (h - 626).
--- No number is halfway between two floats: an odd R is no exact root. Assumes nothing.
+-- The rounded root from a root of 54 binary digits: with R the root of M * 4 ^ 27, the root of M * 4 ^ h / 4 ^ 600 rounds to (R + 1) / 2, cut, times
+-- 2 ^ (h - 626). No number is halfway between two floats: an odd R is no exact root. Assumes nothing.
 use Rattle.std.proofs.Common.{◌≡◌, ℕ, zero, suc, ◌+◌, ◌-◌, ◌*◌, ◌/◌, ◌%◌, ◌^◌, ◌<◌, ◌≤◌, Bool, true, false, cond, not, T, eqb, sym, refl, ap, ◌∙◌, subst, inl, inr, le_trans, le_of_eq, lt_of_lt_of_le, lt_of_le_of_lt, mul-le-mul_right, mul_assoc, eq-zero-or-pos, le_antisymm, mul-lt-mul_of_pos_right, mul-pos, pow-suc, lt_of_not-le, not-le_of_lt, mul-div_cancel, mul_left_comm, arith, eqb→eq, leb→le, pow_pos, pow_mono, pow-add, mul_comm, mul_right_comm, le-div_iff_mul-le, div-lt_iff_lt-mul}
 use Prim.Native.Nat.{compare, Ordering}
 use native.Mathlib.Nat.{mul-mul-mul_comm, eq_of_mul-eq-mul_right}
@@ -206,7 +206,7 @@ module _ (N M t R r s : ℕ) (W : N ≡ M * 2 ^ 54 * (2 ^ t * 2 ^ t)) (lo : 2 ^ 
   near : closest (r * 2 + s) (2 ^ t * 4) ≡ R / 2 + R % 2
   near = ap (λ (z : ℕ). closest (z * 2 + s) (2 ^ t * 4)) parts.is ∙ closest_half R (2 ^ t) parts.rest s parts.rest_lt s_le no_tie
 
-  -- rounded at E places: the value does not turn on how many places the root was taken to
+  -- rounded at E places: the value does not depend on how many places the root is taken to
   longer_value : (E k : ℕ) → k + E ≡ t + 1076 → k ≤ 2000 → HasValue (round binary64 false (r * 2 + s) (2 ^ E)) false ((R / 2 + R % 2) * 2 ^ k) (2 ^ 1074)
   longer_value E k at K = round_at (r * 2 + s) t E k (R / 2 + R % 2) at K a_lo a_hi near (half_hi M R lo hi is)
 

@@ -1,4 +1,5 @@
--- The rounded root of a number's rounded square is the number's size, for sizes from 2 ^ -500 to 2 ^ 500: the square's rounding moves its root by less than half of the number's last place. Assumes nothing.
+-- The rounded root of a number's rounded square is the number's size, for sizes from 2 ^ -500 to 2 ^ 500: the square's rounding moves its root by less
+-- than half of the number's last place. Assumes nothing.
 use Rattle.std.proofs.Common.{◌≡◌, ℕ, zero, suc, ◌+◌, ◌-◌, ◌*◌, ◌/◌, ◌%◌, ◌^◌, ◌<◌, ◌≤◌, Bool, true, false, not, ◌&&◌, T, eqb, ltb, leb, ℤ, pos, sym, refl, ap, ◌∙◌, subst, inl, inr, le_trans, le_of_eq, lt_of_lt_of_le, lt_of_le_of_lt, le_of_lt, mul-le-mul_right, mod-lt, mul_assoc, mul_comm, div-lt_iff_lt-mul, mul-le-mul, le_antisymm, lt_of_mul-lt-mul_right, eq-or-lt_of_le, mul-lt-mul_of_pos_right, mul-pos, one-mul, lt_of_not-le, div-add-mod', le-div_iff_mul-le, zero-mul, mul-one, mul_right_comm, not-le_of_lt, arith, eqb→eq, ltb→lt, leb→le, pow_pos, pow_mono, pow-add}
 use Prim.Native.Nat.{compare, Ordering}
 use native.Mathlib.Nat.{eq_of_mul-eq-mul_right, mul-mul-mul_comm}
@@ -45,7 +46,8 @@ closest_within a b B = go (compare (a % b * 2) b) (leb→le (a % b * 2) b) (nleb
     go Ordering.eq f g e = tie a b (a / b) (a % b) (a / b % 2) (div-add-mod' a b) (mod-lt a B) (e tt) (mod-lt (a / b) (pow_pos 1))
     go Ordering.gt f g e = move a b (a / b) (a % b) (div-add-mod' a b) (mod-lt a B) (le_of_lt (g tt))
 
--- ---- the square of M * 2 ^ k units 2 ^ -1074, where M * M has 53 + c digits: it is rounded to the closest multiple of 2 ^ d units, c digits of M * M are dropped
+-- ---- the square of M * 2 ^ k units 2 ^ -1074, where M * M has 53 + c digits: it is rounded to the closest multiple of 2 ^ d units,
+-- and c digits of M * M are dropped
 module _ (M k c d : ℕ) (at : d + 1074 ≡ k + k + c) (lo : 2 ^ (52 + c) ≤ M * M) (hi : M * M < 2 ^ (53 + c)) where
   in_parts : M * 2 ^ k * (M * 2 ^ k) * 2 ^ 1074 ≡ M * M * 2 ^ (k + k + 1074)
   in_parts =

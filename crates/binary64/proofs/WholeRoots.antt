@@ -1,4 +1,4 @@
--- Whole roots: `root n` is the one r with r * r ≤ n < (r + 1) * (r + 1), and a root to fewer digits is that root cut. Nothing here is about floats. Assumes nothing.
+-- Whole roots: `root n` is the one r with r * r ≤ n < (r + 1) * (r + 1), and a root to fewer digits is that root cut. Assumes nothing.
 use Rattle.std.proofs.Common.{◌≡◌, ℕ, zero, suc, ◌+◌, ◌-◌, ◌*◌, ◌/◌, ◌^◌, ◌<◌, ◌≤◌, Bool, true, false, cond, not, T, leb, sym, refl, subst, zero-le, le_trans, le_of_eq, lt_of_lt_of_le, lt_of_le_of_lt, le_of_lt, mul-le-mul_right, div-lt_iff_lt-mul, mul-le-mul, le_antisymm, mul-lt-mul_of_pos_right, mul-pos, pow-suc, lt_of_not-le, not-le_of_lt, arith, leb→le, pow_pos}
 use native.Mathlib.Nat.{mul-mul-mul_comm, pow-le-pow_left}
 use lib.Dec.{nleb→lt}

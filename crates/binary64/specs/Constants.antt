@@ -1,4 +1,4 @@
--- The constants of document 01, by their bits.
+-- The constants that the definitions name, by their bits.
 use Rattle.std.specs.Prelude.{from_bits, Float}
 use Rattle.std.specs.Float.{binary64}
 

@@ -1,4 +1,5 @@
--- binary64 numbers: the four operations, each rounded once to the nearest value, ties to even (IEEE 754), the size of a number, and what document 01 admits.
+-- binary64 numbers: the four operations, each rounded once to the nearest value, ties to even (IEEE 754), the size of a number, and which numbers are
+-- admitted.
 use Rattle.std.specs.Prelude.{ℕ, ◌*◌, ◌^◌, Bool, false, cond, List, nat_le, slice_index_or, Float}
 use Rattle.std.specs.Float.{nan, inf, fin, binary64}
 use Rattle.std.specs.Float.Ieee.{up, down, add, sub, mul, div, lt}
@@ -7,6 +8,7 @@ infixl 65 ◌⊕◌
 infixl 65 ◌⊖◌
 infixl 70 ◌⊗◌
 infixl 70 ◌⊘◌
+-- a + b, a - b, a * b and a / b, rounded once
 abbrev pub ◌⊕◌ : Float → Float → Float
 a ⊕ b = add binary64 a b
 

@@ -3,10 +3,11 @@ use Rattle.std.specs.Prelude.{ℕ, ◌+◌, ◌-◌, ◌*◌, ◌/◌, ◌^◌, 
 use Rattle.std.specs.Float.{nan, inf, fin}
 use Rattle.std.specs.Float.Ieee.{up, down}
 
--- n / d rounded up, and rounded to the nearest with halves up
+-- n / d rounded up
 abbrev pub quotient_up : ℕ → ℕ → ℕ
 quotient_up n d = (n + (d - 1)) / d
 
+-- n / d rounded to the nearest, halves up
 abbrev pub quotient_half_up : ℕ → ℕ → ℕ
 quotient_half_up n d = (n * 2 + d) / (d * 2)
 

@@ -1,4 +1,4 @@
-// What Rust's std gave the original on binary64 numbers: range tests, abs, rounding with capping casts, the square root.
+// What the original takes from Rust's std on binary64 numbers: range tests, abs, rounding with capping casts, the square root.
 #![tactic(auto)]
 
 mod pattern;

@@ -1,4 +1,4 @@
-// Which numbers document 01 admits: finite, and at most a power of two in size. C calls each of the three by its name, and each is one line.
+// Which numbers the calls admit: finite, and at most a power of two in size. There are three functions, since C calls each by its name.
 ghost use Rattle.std.specs.Prelude.{◌≡◌};
 ghost use Rattle.binary64.specs.Numbers.{at_most};
 

@@ -11,7 +11,7 @@ pub fn abs(x: f64) -> f64
     x.abs()
 }
 
-// The size of d is at most e: by two comparisons, which take less than |d| does.
+// Whether the size of d is at most e. Two comparisons take less time than working out the size.
 #[tactic(auto, using(crate::proofs::Sizes::within_abs))]
 pub fn is_within(d: f64, e: f64) -> bool
     ensures { result ≡ le (numbers.abs d) e }
@@ -19,7 +19,7 @@ pub fn is_within(d: f64, e: f64) -> bool
     d <= e && d >= -e
 }
 
-// The larger of a and b, and a where they are equal. Not std's max, which takes b over an a that is no number, and of two zeros the positive one.
+// The larger of a and b, and a where they are equal. Not std's `max`: it takes b where a is no number, and of two zeros the positive one.
 pub fn larger(a: f64, b: f64) -> f64
     ensures { result ≡ numbers.larger a b }
 {

@@ -3,7 +3,7 @@ use Rattle.std.proofs.Common.{◌≡◌, ℕ, ◌+◌, min, List, ◌++◌, leng
 use Rattle.std.proofs.lemmas.List.{take_min, length-take}
 use Rattle.lists.specs.Lists.{put}
 
--- as many bytes as both lists hold
+-- a copy of as many bytes as both lists hold
 pub cut_copied : (bytes copy part : List ℕ) (n : ℕ) → n ≡ min (length copy) (length bytes) → part ≡ take n bytes → part ++ drop n copy ≡ put copy 0 (take (length copy) bytes)
 unfolding put
 cut_copied bytes copy part n is e =

@@ -13,6 +13,7 @@ use Rattle.openrdson_core.specs.declared.tech.ViaLayers.{ViaLayers}
 use Rattle.c_api.specs.Given.{Given, GivenAs, Said}
 use Rattle.c_api.specs.Lookups as spec
 
+-- what is given depends on the answer alone
 pub same_as : {A B : Type 0} {says : A → B → Type 0} {a b : answers.Answer A} {r : ℕ} {old new : B} → a ≡ b → GivenAs says a r old new → GivenAs says b r old new
 same_as {says = says} {old = old} {new = new} e g = record { status = g.status ∙ ap answers.status e; value = subst (λ x. Said says x old new) e g.value }
 
@@ -21,7 +22,7 @@ pub both_ok : {V : Type 0} {P Q R : V → Type 0} (r : Result V Refusal) → ((v
 both_ok (Ok v) f p q = f v p q
 both_ok (Err why) f p q = tt
 
--- a value given exactly, said of what it means
+-- from a value that is given exactly to what it means
 pub said_as : {A B V : Type 0} (says : A → B → Type 0) (means : V → A) (gives : V → B) (r : Result V Refusal) {n : ℕ} {old new : B}
     → IfOk r (λ v. says (means v) (gives v)) → Given (answers.map_answer gives (answer r)) n old new → GivenAs says (answers.map_answer means (answer r)) n old new
 said_as says means gives (Ok v) w g = record { status = g.status; value = subst (says (means v)) (sym g.value) w }

@@ -1,4 +1,4 @@
--- What an exported call gives back.
+-- What the exported functions give back.
 pub mod Given
 pub mod Lookups
 pub mod Meshes

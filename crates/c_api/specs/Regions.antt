@@ -5,7 +5,7 @@ use Rattle.openrdson_core.specs.declared.solids.SolidRegion.{SolidRegion}
 use Rattle.openrdson_core.specs.Solids.{z_bottom_of, z_top_of}
 use Rattle.geometry.specs.Regions as regions
 
--- the entries of a solid
+-- the entries of a solid in its row
 pub record SolidRow : Type 0 where
   pub kind : ℕ
   pub min_x : Float
@@ -36,7 +36,7 @@ solid_row s =
     the_solid_row (regions.kind_of s) (regions.min_x_of s) (regions.min_y_of s) (regions.max_x_of s) (regions.max_y_of s) (z_bottom_of s) (z_top_of s)
     (regions.start_of s) (regions.count_of s)
 
--- and those of its material, its net and its polygon
+-- a row: the entries of its solid, its material, its net and its polygon
 pub record RegionRow : Type 0 where
   pub solid : SolidRow
   pub material : ℕ

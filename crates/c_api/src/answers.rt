@@ -1,4 +1,5 @@
 // An answer as C takes it: a status, and the value through references, which a refusal leaves alone.
+// C hands each list and number over by itself, and takes each value through its own reference.
 ghost use Rattle.std.specs.Prelude.{◌≡◌};
 ghost use Rattle.lists.specs.Answer.{status, map_answer};
 ghost use Rattle.openrdson_core.specs.Answers.{answer};
@@ -18,7 +19,7 @@ pub fn give_check(checked: Result<(), Refusal>) -> u32
     }
 }
 
-// One value.
+// A value of one part.
 pub fn give<T: Copy>(found: Result<T, Refusal>, out: &mut T) -> u32
     ensures { Given (answer found) result out.old out.new }
 {
@@ -31,7 +32,7 @@ pub fn give<T: Copy>(found: Result<T, Refusal>, out: &mut T) -> u32
     }
 }
 
-// The four bounds of a box.
+// The four bounds of a bounding box.
 pub fn give_bounds(
     found: Result<Bbox, Refusal>,
     min_x: &mut f64,
@@ -175,7 +176,7 @@ pub fn give_via(
     }
 }
 
-// Copies the first bytes, as many as the copy has room for, and gives how many there are.
+// Copies the first bytes, as many as the copy has room for, and gives how many bytes there are in all.
 pub fn give_bytes(bytes: &[u8], copy: &mut [u8]) -> usize
     ensures { Copied bytes.now result copy.old copy.new }
 {

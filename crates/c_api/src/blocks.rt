@@ -1,4 +1,5 @@
-// The calls of openrdson_core on name blocks. A name is given as a place in the block it stands in.
+// The calls of openrdson_core on name blocks. A name is given as its start and its length in the block that it stands in.
+// C hands each list and number over by itself, and takes each value through its own reference.
 ghost use Rattle.std.specs.Prelude.{◌≡◌, is_some};
 ghost use Rattle.lists.specs.Answer.{status, map_answer};
 ghost use Rattle.openrdson_core.specs.Layout.{is_marker, layer_name, start_of_name};
@@ -75,7 +76,7 @@ pub extern "C" fn openrdson_physical_name(
     )
 }
 
-// The same name as bytes; none unless it is found.
+// The bytes of the same name; none where it is not found or a block is damaged.
 #[unsafe(no_mangle)]
 pub extern "C" fn openrdson_copy_physical_name<'a>(
     conducting: &'a [u8],

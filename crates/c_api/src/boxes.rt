@@ -1,4 +1,5 @@
 // The calls of meshing on an axis and on a box.
+// C hands each list and number over by itself, and takes each value through its own reference.
 ghost use Rattle.std.specs.Prelude.{◌≡◌};
 ghost use Rattle.openrdson_core.specs.Mesh.{the_counts, the_mesh};
 ghost use Rattle.openrdson_core.specs.Answers.{answer};
@@ -31,7 +32,7 @@ pub extern "C" fn openrdson_axis_coordinate(
     give(meshing::axis_coordinate(min, max, cell, place), coordinate)
 }
 
-// The numbers of nodes and of elements that a mesh has now.
+// The numbers of nodes and of elements of the mesh that the call leaves.
 pub fn give_grown(meshed: Result<Counts, Refusal>, nodes: &mut usize, elements: &mut usize) -> u32
     ensures { Given (answer meshed) result (the_counts nodes.old elements.old) (the_counts nodes.new elements.new) }
 {
@@ -45,7 +46,7 @@ pub fn give_grown(meshed: Result<Counts, Refusal>, nodes: &mut usize, elements: 
     }
 }
 
-// The call; the two counts are those of the mesh handed in, and then those of the mesh with the box.
+// The two counts are those of the mesh handed in, and after the call those of the mesh with the box.
 #[tactic(auto, using(crate::proofs::MeshCalls::given_mesh))]
 #[unsafe(no_mangle)]
 pub extern "C" fn openrdson_mesh_box(

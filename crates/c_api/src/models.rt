@@ -1,4 +1,5 @@
-// The calls of meshing on a model. The two counts are those of the mesh handed in, and then those of the mesh with the model.
+// The calls of meshing on a model. The two counts are those of the mesh handed in, and after the call those of the mesh with the model.
+// C hands each list and number over by itself, and takes each value through its own reference.
 ghost use Rattle.std.specs.Prelude.{◌≡◌, length};
 ghost use Rattle.openrdson_core.specs.Mesh.{the_counts, the_mesh};
 ghost use Rattle.geometry.specs.Regions.{the_regions};
@@ -10,7 +11,7 @@ use geometry::Regions;
 use meshing::{MeshConfig, Overrides};
 use openrdson_core::{Counts, MeshLists};
 
-// The three lists of overrides are materials and their cell sizes.
+// The three lists of the overrides are `materials`, `laterals` and `verticals`.
 #[tactic(auto, using(crate::proofs::MeshCalls::given_model))]
 #[unsafe(no_mangle)]
 pub extern "C" fn openrdson_mesh_model_with_options(

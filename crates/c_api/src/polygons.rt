@@ -1,4 +1,5 @@
 // The calls of meshing on rings.
+// C hands each list and number over by itself, and takes each value through its own reference.
 ghost use Rattle.std.specs.Prelude.{◌≡◌, length};
 ghost use Rattle.meshing.specs.Triangulate.{triangulate_polygon};
 ghost use Rattle.c_api.specs.Given.{Given};
@@ -6,10 +7,10 @@ ghost use Rattle.openrdson_core.specs.Answers.{answer};
 ghost use Rattle.c_api.specs.Polygons.{GivenRing, GivenTriangles, the_numbers};
 
 use crate::answers::give;
-use meshing::Triangulation;
+use meshing::PolygonCounts;
 use openrdson_core::Refusal;
 
-// The call; the number of points is given through the last reference.
+// The points that are left go to the start of the two lists, and their number through the last reference.
 #[unsafe(no_mangle)]
 pub extern "C" fn openrdson_dedup_ring(
     xs: &[f64],
@@ -25,7 +26,7 @@ pub extern "C" fn openrdson_dedup_ring(
 
 // The numbers of vertices and of triangles.
 fn give_counts(
-    triangulated: Result<Triangulation, Refusal>,
+    triangulated: Result<PolygonCounts, Refusal>,
     vertices: &mut usize,
     triangles: &mut usize,
 ) -> u32
@@ -41,7 +42,7 @@ fn give_counts(
     }
 }
 
-// The call; the numbers of vertices and of triangles are given through the last references.
+// The cleaned ring and the corners go to the start of their lists, and their numbers through the last two references.
 #[unsafe(no_mangle)]
 pub extern "C" fn openrdson_triangulate_polygon(
     xs: &[f64],

@@ -1,4 +1,6 @@
-// The calls of meshing on a prism and on a region. The two counts are those of the mesh handed in, and then those of the mesh with the region.
+// The calls of meshing on a prism and on a region. The two counts are those of the mesh handed in, and after the call
+// those of the mesh with the region.
+// C hands each list and number over by itself, and takes each value through its own reference.
 ghost use Rattle.std.specs.Prelude.{◌≡◌};
 ghost use Rattle.openrdson_core.specs.Mesh.{the_counts, the_mesh};
 ghost use Rattle.openrdson_core.specs.declared.solids.Solid.TheVariants.{Box, Prism};

@@ -1,4 +1,5 @@
 // The calls of geometry: extruding, and the total volume of a region list. A region is given as its row of a region list.
+// C hands each list and number over by itself, and takes each value through its own reference.
 ghost use Rattle.std.specs.Prelude.{◌≡◌};
 ghost use Rattle.lists.specs.Answer.{map_answer};
 ghost use Rattle.openrdson_core.specs.Answers.{answer};
@@ -9,10 +10,10 @@ ghost use Rattle.c_api.specs.Given.{Given};
 ghost use Rattle.c_api.specs.Regions as spec;
 
 use crate::answers::give;
-use geometry::Regions;
+use geometry::{Columns, Regions};
 use openrdson_core::{Bbox, Heights, Material, Refusal, Solid, SolidRegion};
 
-// The entries of a solid: a prism's first four bounds and a box's start and count are zero.
+// The entries of a solid in its row.
 fn give_solid(
     solid: Solid,
     kind: &mut u8,
@@ -27,45 +28,20 @@ fn give_solid(
 )
     ensures { spec.the_solid_row kind.new min_x.new min_y.new max_x.new max_y.new z_bottom.new z_top.new start.new count.new ≡ spec.solid_row solid }
 {
-    match solid {
-        Solid::Box {
-            min_x: x0,
-            min_y: y0,
-            max_x: x1,
-            max_y: y1,
-            z_bottom: z0,
-            z_top: z1,
-        } => {
-            *kind = 0;
-            *min_x = x0;
-            *min_y = y0;
-            *max_x = x1;
-            *max_y = y1;
-            *z_bottom = z0;
-            *z_top = z1;
-            *start = 0;
-            *count = 0;
-        }
-        Solid::Prism {
-            z_bottom: z0,
-            z_top: z1,
-            start: at,
-            count: points,
-        } => {
-            *kind = 1;
-            *min_x = 0.0;
-            *min_y = 0.0;
-            *max_x = 0.0;
-            *max_y = 0.0;
-            *z_bottom = z0;
-            *z_top = z1;
-            *start = at;
-            *count = points;
-        }
-    }
+    let columns = Columns::from(solid);
+    let heights = solid.heights();
+    *kind = u8::from(columns.kind);
+    *min_x = columns.sides.min_x;
+    *min_y = columns.sides.min_y;
+    *max_x = columns.sides.max_x;
+    *max_y = columns.sides.max_y;
+    *z_bottom = heights.bottom;
+    *z_top = heights.top;
+    *start = columns.part.start;
+    *count = columns.part.count;
 }
 
-// The row of a region.
+// The row of a region, or the refusal.
 fn give_region(
     built: Result<SolidRegion, Refusal>,
     kind: &mut u8,

@@ -1,4 +1,5 @@
 // The calls of openrdson_core on rings and bounding boxes.
+// C hands each list and number over by itself, and takes each value through its own reference.
 ghost use Rattle.std.specs.Prelude.{◌≡◌};
 ghost use Rattle.openrdson_core.specs.Points.{of_ring};
 ghost use Rattle.openrdson_core.specs.Area as areas;

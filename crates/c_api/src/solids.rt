@@ -1,4 +1,5 @@
 // The calls of openrdson_core on solids.
+// C hands each list and number over by itself, and takes each value through its own reference.
 ghost use Rattle.std.specs.Prelude.{◌≡◌};
 ghost use Rattle.openrdson_core.specs.Bounds.{the_bbox};
 ghost use Rattle.openrdson_core.specs.Solids as solids;
@@ -8,7 +9,7 @@ ghost use Rattle.c_api.specs.Given.{Given};
 use crate::answers::{give, give_bounds};
 use openrdson_core::{Material, PolygonNumber, Solid, SolidRegion};
 
-// A box, a prism and a region with these numbers, which C hands over by themselves.
+// The box of these numbers, which C hands over by themselves; below it a prism and a region.
 fn boxed(min_x: f64, min_y: f64, max_x: f64, max_y: f64, z_bottom: f64, z_top: f64) -> Solid
     ensures { result ≡ Box min_x min_y max_x max_y z_bottom z_top }
 {
@@ -78,7 +79,7 @@ pub extern "C" fn openrdson_prism_volume(
     give(solid.volume(xs, ys), volume)
 }
 
-// The volume of a region does not depend on its material, its net and its polygon.
+// The volume of a region depends neither on its material nor on its net or its polygon.
 #[unsafe(no_mangle)]
 pub extern "C" fn openrdson_box_region_volume(
     material: u32,

@@ -1,4 +1,5 @@
 // Stacking as a C function.
+// C hands each list and number over by itself, and takes each value through its own reference.
 ghost use Rattle.std.specs.Prelude.{◌≡◌};
 ghost use Rattle.openrdson_core.specs.Tech.{the_blocks};
 ghost use Rattle.geometry.specs.Polygons.{the_polygons};
@@ -11,7 +12,7 @@ use crate::answers::give;
 use geometry::{Polygons, RegionLists, assemble_stack};
 use openrdson_core::Blocks;
 
-// The call; the number of regions is given through the last reference.
+// The rows and the outcomes go to the start of their lists, and the number of regions through the last reference.
 #[tactic(auto, using(crate::proofs::StackRows::given_rows))]
 #[unsafe(no_mangle)]
 pub extern "C" fn openrdson_assemble_stack(

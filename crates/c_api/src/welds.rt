@@ -1,4 +1,6 @@
-// The calls of meshing on a mesh whose lists hold it and nothing past it. A welded mesh goes to lists of its own, and its counts through references.
+// The calls of meshing on a mesh whose lists hold it and nothing past it. The welded mesh goes to the start of lists of its
+// own, and its counts through references.
+// C hands each list and number over by itself, and takes each value through its own reference.
 ghost use Rattle.std.specs.Prelude.{◌≡◌};
 ghost use Rattle.openrdson_core.specs.Mesh.{the_counts, the_mesh};
 ghost use Rattle.meshing.specs.Volumes.{mesh_volume};

@@ -22,7 +22,7 @@ use Rattle.geometry.proofs.TableLaws.{layer_plan_lem}
 pub leaves_same : {a b : Answer Stacking} {r r' : Regions} {o o' : List ℕ} {s : Result ℕ Refusal} → a ≡ b → Leaves b r r' o o' s → Leaves a r r' o o' s
 leaves_same {r = r} {r'} {o} {o'} {s} e l = subst (λ (c : Answer Stacking). Leaves c r r' o o' s) (sym e) l
 
--- where the call is turned down, all is as it was
+-- where the call is refused, all is as it was
 pub refused_leaves : (r : Regions) (o : List ℕ) (a : Answer Stacking) {n : ℕ} {s : Result ℕ Refusal} → a ≡ refused n → answer s ≡ refused n → Leaves a r r o o s
 refused_leaves r o a e f = leaves_same e (record { count = f; rows = refl; told = refl })
 
@@ -30,7 +30,7 @@ refused_leaves r o a e f = leaves_same e (record { count = f; rows = refl; told 
 abbrev pub stacked : Blocks → Polygons → Regions → List ℕ → Answer Stacking
 stacked b p r o = fitted p (λ i. plan_of b (layer_at p i)) (length r.kinds) (length o)
 
--- ---- with all checked: 12, or what is written. The rows are counted and written by the filled table's plans.
+-- ---- after the checks: 12, or what is written. The rows are counted and written by the plans in the filled list.
 
 module _ (b : Blocks) (p : Polygons) (r : Regions) (o : List ℕ) (plans filled : List Plan) (is : filled ≡ put plans 0 (elems (count b.names) (row_plan b))) where
   abbrev n : ℕ

@@ -94,8 +94,8 @@ pub empty_total : total_volume (the_regions [] [] [] [] [] [] [] [] [] [] [] [])
 unfolding total_volume even_regions of_bits fold_answer
 empty_total = refl
 
--- Two rows: the box 0..2 by 0..1 by 0..3 with a wild start and a wild count, and a prism from 0 to 2 over points 1 to 3 whose first four bounds are no numbers.
--- Their kinds and materials are given, and the box's top.
+-- Two rows: the box 0..2 by 0..1 by 0..3 with a start and a count that end past the points, and a prism from 0 to 2 over points 1 to 3 whose first four
+-- bounds are no numbers. Their kinds and materials are given, and the box's top.
 abbrev rows : ℕ → ℕ → ℕ → ℕ → Float → Regions
 rows kind₀ kind₁ material₀ material₁ top =
     the_regions (kind₀ ∷ kind₁ ∷ []) (zero ∷ nan ∷ []) (zero ∷ nan ∷ []) (two ∷ nan ∷ []) (one ∷ nan ∷ []) (zero ∷ zero ∷ []) (top ∷ two ∷ [])

@@ -1,10 +1,12 @@
 -- What the polygons come to, one after the other.
-use Rattle.std.proofs.Common.{ℕ, zero, suc, ◌+◌, ◌≤◌, ◌<◌, ◌≡◌, refl, sym, ap, subst, ◌∙◌, inl, inr, ◌++◌, eq-or-lt_of_le, add-one, arith, length, length-append}
+use Rattle.std.proofs.Common.{ℕ, List, [], ◌∷◌, cond, get_or, zero, suc, ◌+◌, ◌≤◌, ◌<◌, ◌≡◌, refl, sym, ap, subst, ◌∙◌, inl, inr, ◌++◌, eq-or-lt_of_le, add-one, arith, length, length-append}
 use Rattle.lists.specs.Lists.{runs, fold_below}
 use Rattle.geometry.specs.Regions.{Regions, Even, put_regions}
 use Rattle.geometry.specs.Polygons.{Polygons}
 use Rattle.geometry.specs.Stack.{rows_of, regions_at, regions_to, rows_to}
-use Rattle.std.specs.Prelude.{Ok, Err}
+use Rattle.std.specs.Prelude.{ℤ, pos, Ok, Err}
+use Rattle.std.specs.List.{filter}
+use Rattle.std.specs.Result.{is_ok}
 use Rattle.geometry.specs.Plans.{Plan}
 use Rattle.geometry.proofs.RowLaws.{no_rows, more_rows, rows_long, rows_even}
 
@@ -46,6 +48,22 @@ module _ (plan : ℕ → Plan) where
   pub rows_few : (n : ℕ) → rows_to plan n ≤ n
   rows_few zero = omega (arith, rows_none)
   rows_few (suc n) = omega (arith, rows_few n, rows_suc n, one_row (plan n))
+
+-- the first row, then the rows of the others
+rows_front : (plan : ℕ → Plan) (n : ℕ) → rows_to plan (suc n) ≡ rows_of (plan 0) + rows_to (λ i. plan (suc i)) n
+rows_front plan zero = omega (arith, rows_suc plan 0, rows_none plan, rows_none (λ i. plan (suc i)))
+rows_front plan (suc n) = omega (arith, rows_suc plan (suc n), rows_front plan n, rows_suc (λ i. plan (suc i)) n)
+
+one_passed : (layer : ℤ) (rest : List ℤ) (q : Plan) → length (cond (is_ok q) (layer ∷ rest) rest) ≡ rows_of q + length rest
+one_passed layer rest (Err why) = omega arith
+one_passed layer rest (Ok s) = omega arith
+
+-- as many rows as layers whose plan gives one
+pub rows_listed : (plan : ℤ → Plan) (layers : List ℤ) → length (filter (λ layer. is_ok (plan layer)) layers) ≡ rows_to (λ i. plan (get_or layers i (pos 0))) (length layers)
+rows_listed plan [] = rows_none _
+rows_listed plan (layer ∷ rest) =
+    let here = one_passed layer (filter (λ layer. is_ok (plan layer)) rest) (plan layer) in
+    omega (arith, here, rows_listed plan rest, rows_front (λ i. plan (get_or (layer ∷ rest) i (pos 0))) (length rest))
 
 -- ---- the regions of the polygons
 

@@ -127,7 +127,8 @@ pub plan_flat : plan_for 68 ≡ Err NoRange
 unfolding plan_of_physical stack_range layer_range diffusion_range row_of material_of first same zeros name_length little add le lt round of_bits all_below
 plan_flat = refl
 
--- a via: from the top of its bottom layer to the bottom of its top layer, with the via's own material; upside down or without an end there is no range
+-- a via: from the top of its bottom layer to the bottom of its top layer, with the via's own material; with its layers exchanged, or without one of
+-- them, there is no range
 pub plan_via : plan_for 86 ≡ slab two three 5
 unfolding plan_of_physical stack_range layer_range diffusion_range row_of material_of first same zeros name_length little add le lt round of_bits all_below
 plan_via = refl

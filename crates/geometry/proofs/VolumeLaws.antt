@@ -31,6 +31,6 @@ module _ (r : Regions) (xs ys : List Float) where
   pub total_more : (i : ℕ) {sum v : Float} → given sum ≡ total_to r xs ys i → given v ≡ row_volume r xs ys i → given (sum ⊕ v) ≡ total_to r xs ys (i + 1)
   total_more i {sum} e f = steps_more step zero64 i e (ap (map_answer (λ (v : Float). sum ⊕ v)) f)
 
-  -- a row that is turned down decides, whatever comes after
+  -- a row that is refused decides, whatever comes after
   pub total_stops : (i m : ℕ) {sum : Float} {n : ℕ} → i < m → given sum ≡ total_to r xs ys i → refused n ≡ row_volume r xs ys i → refused n ≡ total_to r xs ys m
   total_stops i m {sum} h e f = steps_stop step zero64 i m h e (ap (map_answer (λ (v : Float). sum ⊕ v)) f)

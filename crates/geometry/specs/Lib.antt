@@ -1,4 +1,5 @@
--- The definitions that the contracts cite: one file a source file.
+-- The definitions that the contracts cite. The numbers in a definition's comment are refusals (openrdson_core's specs/Refusals), in the order in which they
+-- are tried.
 pub mod Regions
 pub mod Extrude
 pub mod Volumes

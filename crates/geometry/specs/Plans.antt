@@ -17,7 +17,7 @@ use Rattle.geometry.specs.declared.plans.Slab.{Slab}
 abbrev pub Plan : Type 0
 Plan = Result Slab Skip
 
--- document 01's outcomes without a region
+-- the outcome of a polygon without a region
 abbrev pub skip_number : Skip → ℕ
 skip_number Unnamed = 2
 skip_number Marker = 3
@@ -29,7 +29,7 @@ abbrev pub with_range : ℕ → Range → Plan
 with_range material None = Err NoRange
 with_range material (Some z) = cond (le z.top z.bottom) (Err NoRange) (Ok (record { range = z; material = record { 0 = material } }))
 
--- of a physical name
+-- the plan of a physical name
 unfoldable pub plan_of_physical : Blocks → List ℕ → Plan
 plan_of_physical b physical =
     with_range (material_of b.conductors b.diffusions b.vias physical) (stack_range b.conductors b.diffusions b.vias physical)
@@ -39,7 +39,7 @@ abbrev pub with_physical : Blocks → Option (List ℕ) → Plan
 with_physical b None = Err Unmatched
 with_physical b (Some physical) = plan_of_physical b physical
 
--- of a logical name: 3 for a marker; the conducting map is asked first, then the via map
+-- the plan of a logical name: 3 for a marker; the conducting map is asked first, then the via map
 unfoldable pub plan_of_name : Blocks → List ℕ → Plan
 plan_of_name b name = cond (is_marker name) (Err Marker) (with_physical b (option_or (in_map b.conducting name) (in_map b.via name)))
 
@@ -48,9 +48,10 @@ abbrev pub with_name : Blocks → Option (List ℕ) → Plan
 with_name b None = Err Unnamed
 with_name b (Some name) = plan_of_name b name
 
+-- the plan of a layer
 unfoldable pub plan_of : Blocks → ℤ → Plan
 plan_of b layer = with_name b (name_of_layer b.names layer)
 
--- of row i of the layer names
+-- the plan of row i of the layer names
 abbrev pub row_plan : Blocks → ℕ → Plan
 row_plan b i = plan_of_name b (unpad (value_at Number Name b.names i))

@@ -40,11 +40,11 @@ pub record EvenPolygons (p : Polygons) : Type 0 where
 unfoldable pub part_fault : List Float → List Float → ℕ → ℕ → Answer (Unit {0})
 part_fault xs ys start count = unless (leb (start + count) (length xs)) 15 (ring_fault (part start count xs) (part start count ys))
 
--- of the first n polygons, the first that is turned down decides
+-- of the first n polygons, the first that is refused decides
 abbrev pub parts_fault : List Float → List Float → List ℕ → List ℕ → ℕ → Answer (Unit {0})
 parts_fault xs ys starts counts n = fold_answer n (λ (_ : Unit {0}) (i : ℕ). part_fault xs ys (get_or starts i 0) (get_or counts i 0)) tt
 
--- against a layout's polygons: 16, 2, then polygon by polygon
+-- what a layout's polygons are refused for: 16, 2, then polygon by polygon 15, 2, 1
 unfoldable pub polygons_fault : Polygons → Answer (Unit {0})
 polygons_fault p =
     unless (even_polygons p) 16
@@ -58,5 +58,6 @@ part_solid xs ys start count z0 z1 = solid_of (part start count xs) (part start 
 
 -- ---- polygon i
 
+-- its layer number
 abbrev pub layer_at : Polygons → ℕ → ℤ
 layer_at p i = get_or p.layers i (pos 0)

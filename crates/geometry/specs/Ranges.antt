@@ -1,4 +1,4 @@
--- The range of heights of a physical name (document 01, "Stacking").
+-- The range of heights of a physical name.
 use Rattle.std.specs.Prelude.{ℕ, List, Float, Option, Some, None, option_map}
 use Rattle.binary64.specs.Numbers.{◌⊕◌}
 use Rattle.openrdson_core.specs.Blocks.{entry_of}
@@ -27,9 +27,11 @@ abbrev pub first_range : Option Figures → Range → Range
 first_range None other = other
 first_range (Some c) other = from_to c.height c.thickness
 
+-- of the diffusion of a name
 unfoldable pub diffusion_range : List ℕ → List ℕ → Range
 diffusion_range diffusions name = figures_range (option_map figures_of (entry_of cell.Figures diffusions name))
 
+-- of the conductor of a name, else of the diffusion
 unfoldable pub layer_range : List ℕ → List ℕ → List ℕ → Range
 layer_range conductors diffusions name = first_range (option_map figures_of (entry_of cell.Figures conductors name)) (diffusion_range diffusions name)
 
@@ -44,6 +46,7 @@ between None t = None
 between (Some b) None = None
 between (Some b) (Some t) = Some (record { bottom = b.top; top = t.bottom })
 
+-- of a via, by its two layers
 abbrev pub via_range : List ℕ → List ℕ → ViaNames → Range
 via_range conductors diffusions v = between (end_range conductors diffusions v.bottom) (end_range conductors diffusions v.top)
 
@@ -52,5 +55,6 @@ abbrev pub range_by : List ℕ → List ℕ → List ℕ → Option ViaNames →
 range_by conductors diffusions name None = layer_range conductors diffusions name
 range_by conductors diffusions name (Some v) = via_range conductors diffusions v
 
+-- of a physical name
 unfoldable pub stack_range : List ℕ → List ℕ → List ℕ → List ℕ → Range
 stack_range conductors diffusions vias name = range_by conductors diffusions name (option_map via_names_of (entry_of cell.Ends vias name))

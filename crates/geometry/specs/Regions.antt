@@ -1,4 +1,4 @@
--- A region list (document 01, "What is lent"): twelve parallel lists, a row a region.
+-- A region list: twelve parallel lists, a row a region.
 use Rattle.std.specs.Prelude.{ℕ, ◌+◌, ◌≡◌, Bool, ◌<◌, cond, List, [], ◌∷◌, map, eqb, leb, length, get_or, Float, Result, Ok, Err}
 use Rattle.std.specs.List.{list_all}
 use Rattle.lists.specs.Answer.{Answer, given, unless, map_answer}
@@ -16,7 +16,7 @@ use Rattle.geometry.specs.declared.regions.RowKind.{RowKind}
 use Rattle.geometry.specs.declared.regions.RowKind.TheVariants as rows
 use Rattle.geometry.specs.declared.regions.Regions.{Regions as Listed}
 use Rattle.geometry.specs.declared.regions.RegionLists.{RegionLists}
-use Rattle.geometry.specs.declared.rows.Cells.{Cells}
+use Rattle.geometry.specs.declared.rows.Columns.{Columns}
 
 pub record Regions : Type 0 where
   pub kinds : List ℕ
@@ -81,7 +81,7 @@ abbrev pub kind_number : RowKind → ℕ
 kind_number rows.Box = 0
 kind_number rows.Prism = 1
 
--- the kind that a number stands for; 15 where it stands for none
+-- the number stands for the kind; 15 where it stands for none
 abbrev pub StandsFor : ℕ → Result RowKind Refusal → Type 0
 StandsFor n (Ok kind) = n ≡ kind_number kind
 StandsFor n (Err why) = (why ≡ OutsideList) × (1 < n)
@@ -102,7 +102,7 @@ lengths_of r =
 unfoldable pub even_regions : Regions → Bool
 even_regions r = all_equal (length r.kinds) (lengths_of r)
 
--- the same, list by list, and a row of them
+-- the same, list by list
 pub record Even (r : Regions) : Type 0 where
   pub min_x : length r.min_x ≡ length r.kinds
   pub min_y : length r.min_y ≡ length r.kinds
@@ -118,7 +118,7 @@ pub record Even (r : Regions) : Type 0 where
 
 -- ---- a region by value
 
--- no polygon
+-- the polygon number of a region that came from no polygon
 abbrev pub no_polygon : ℕ
 no_polygon = 4294967295
 
@@ -183,9 +183,9 @@ abbrev pub count_of : Solid → ℕ
 count_of (Box x0 y0 x1 y1 z0 z1) = 0
 count_of (Prism z0 z1 start count) = count
 
--- all of these but the heights
-abbrev pub cells_of : Solid → Cells
-cells_of s = record { kind = row_kind s; sides = the_bbox (min_x_of s) (min_y_of s) (max_x_of s) (max_y_of s); part = record { start = start_of s; count = count_of s } }
+-- a row without its heights, material, net and polygon
+abbrev pub columns_of : Solid → Columns
+columns_of s = record { kind = row_kind s; sides = the_bbox (min_x_of s) (min_y_of s) (max_x_of s) (max_y_of s); part = record { start = start_of s; count = count_of s } }
 
 -- the lists with these regions in them from row k on
 abbrev pub put_regions : Regions → ℕ → List SolidRegion → Regions

@@ -12,7 +12,7 @@ use Rattle.geometry.specs.Plans.{Plan, skip_number, plan_of}
 use Rattle.geometry.specs.declared.plans.Skip.{Skip}
 use Rattle.geometry.specs.declared.regions.RowKind.{RowKind}
 
--- ---- what a polygon, a part of the point lists, comes to by a plan: a region or none, and an outcome, 0 box, 1 prism, or why there is no region
+-- ---- what a polygon, a part of the point lists, comes to by a plan: one region or none, and an outcome: 0 box, 1 prism, else why there is no region
 
 -- a row's kind, or why there is none, as a number
 abbrev pub outcome_number : Result RowKind Skip → ℕ
@@ -20,15 +20,17 @@ outcome_number (Ok kind) = kind_number kind
 outcome_number (Err why) = skip_number why
 
 module _ (xs ys : List Float) (start count : ℕ) where
+  -- its regions
   abbrev pub regions_of : ℕ → ℕ → Plan → List SolidRegion
   regions_of net polygon (Err why) = []
   regions_of net polygon (Ok s) = the_region s.material.0 net polygon (part_solid xs ys start count s.range.bottom s.range.top) ∷ []
 
+  -- its outcome
   abbrev pub outcome_of : Plan → ℕ
   outcome_of (Err why) = skip_number why
   outcome_of (Ok s) = kind_of (part_solid xs ys start count s.range.bottom s.range.top)
 
--- how many regions that is
+-- how many regions a plan gives
 abbrev pub rows_of : Plan → ℕ
 rows_of (Err why) = 0
 rows_of (Ok s) = 1
@@ -48,11 +50,13 @@ regions_to p plan n = runs n (λ i. regions_at p i (plan i))
 unfoldable pub outcomes_to : Polygons → (ℕ → Plan) → ℕ → List ℕ
 outcomes_to p plan n = elems n (λ i. outcome_at p i (plan i))
 
+-- how many regions these are
 unfoldable pub rows_to : (ℕ → Plan) → ℕ → ℕ
 rows_to plan n = fold_below n (λ rows i. rows + rows_of (plan i)) 0
 
 -- ---- the whole layout: a polygon's plan goes by its layer
 
+-- all regions, and all outcomes
 pub record Stacking : Type 0 where
   pub regions : List SolidRegion
   pub outcomes : List ℕ
@@ -65,7 +69,7 @@ unfoldable pub fitted : Polygons → (ℕ → Plan) → ℕ → ℕ → Answer S
 fitted p plan rows outcomes =
     unless (leb (length (stacking_by p plan).regions) rows) 12 (unless (leb (length p.layers) outcomes) 12 (given (stacking_by p plan)))
 
--- 14 and 1 for the blocks; 16; 2; polygon by polygon 15, 2, 1
+-- what stacking is refused for before 12: 14 and 1 for the blocks; 16; 2; polygon by polygon 15, 2, 1
 unfoldable pub stack_fault : Blocks → Polygons → Regions → Answer (Unit {0})
 stack_fault b p r =
     and_then (blocks_fault b.names b.conducting b.via b.conductors b.diffusions b.vias) (λ _.
@@ -75,7 +79,7 @@ stack_fault b p r =
     (unless (leb (length p.xs) 2097152) 2
     (parts_fault p.xs p.ys p.starts p.counts (length p.layers))))))
 
--- then 12
+-- the whole call, with 12
 unfoldable pub assemble_stack : Blocks → Polygons → Regions → List ℕ → Answer Stacking
 assemble_stack b p r outcomes =
     and_then (stack_fault b p r) (λ _. fitted p (λ i. plan_of b (layer_at p i)) (length r.kinds) (length outcomes))

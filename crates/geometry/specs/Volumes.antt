@@ -11,7 +11,7 @@ use Rattle.geometry.specs.Regions.{Regions, even_regions, region_at}
 unfoldable pub row_volume : Regions → List Float → List Float → ℕ → Answer Float
 row_volume r xs ys i = and_then (region_at r (length xs) i) (λ (g : SolidRegion). of_solid xs ys g.solid (volume xs ys g.solid))
 
--- the sum over the first n rows in order, from +0; the first row that is turned down decides
+-- the sum over the first n rows in order, from +0; the first row that is refused decides
 abbrev pub total_to : Regions → List Float → List Float → ℕ → Answer Float
 total_to r xs ys n = fold_answer n (λ (sum : Float) (i : ℕ). map_answer (λ (v : Float). sum ⊕ v) (row_volume r xs ys i)) zero64
 

@@ -1,4 +1,4 @@
-// Extruding a footprint between two heights. The calls take a ring's lists, a material and a net by themselves, as document 01 has them.
+// Extruding a footprint between two heights. The calls take a ring's two lists, a material and a net as they are lent, each as an argument of its own.
 ghost use Rattle.std.specs.Prelude.{◌≡◌};
 ghost use Rattle.openrdson_core.specs.Points.{of_ring};
 ghost use Rattle.openrdson_core.specs.Bounds.{bounds_of};
@@ -7,23 +7,9 @@ ghost use Rattle.geometry.specs.Extrude as spec;
 
 use crate::regions::{LARGEST_MATERIAL, NO_POLYGON, Part};
 use openrdson_core::{
-    Bbox, Heights, Material, Point, PolygonNumber, Refusal, Solid, SolidRegion,
-    is_axis_aligned_rectangle, ring_size,
+    Bbox, Heights, Material, PolygonNumber, Refusal, Solid, SolidRegion, is_axis_aligned_rectangle,
+    ring_size,
 };
-
-// The box with these sides between two heights. No `From`: the types are another crate's.
-fn box_of(sides: Bbox, heights: Heights) -> Solid
-    ensures { result ≡ spec.box_of sides heights.bottom heights.top }
-{
-    Solid::Box {
-        min_x: sides.min_x,
-        min_y: sides.min_y,
-        max_x: sides.max_x,
-        max_y: sides.max_y,
-        z_bottom: heights.bottom,
-        z_top: heights.top,
-    }
-}
 
 // A ring between two heights, a box or a prism of this part of the point lists; 16, 2, 1.
 #[tactic(auto, unfolding(crate::specs::Extrude::solid_of))]
@@ -32,7 +18,7 @@ pub fn extrude_ring(xs: &[f64], ys: &[f64], heights: Heights, part: Part) -> Res
 {
     if is_axis_aligned_rectangle(xs, ys)? {
         let bounds = Bbox::from_points(xs, ys)?;
-        return Ok(box_of(bounds, heights));
+        return Ok(Solid::of_box(bounds, heights));
     }
     Ok(Solid::Prism {
         z_bottom: heights.bottom,
@@ -96,10 +82,9 @@ pub fn extrude_box(
 ) -> Result<SolidRegion, Refusal>
     ensures { answer result ≡ spec.extrude_box sides heights.bottom heights.top material.0 net }
 {
-    let low = Point::new(sides.min_x, sides.min_y);
-    let high = Point::new(sides.max_x, sides.max_y);
-    if !(low.is_in_range() & high.is_in_range()) {
+    if !sides.is_in_range() {
         return Err(Refusal::NumberOutOfRange);
     }
-    region_of(box_of(sides, heights), heights, material, net)
+    let solid = Solid::of_box(sides, heights);
+    region_of(solid, heights, material, net)
 }

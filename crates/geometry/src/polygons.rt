@@ -101,7 +101,7 @@ fn polygon_solid(points: Points<'_>, part: Part, heights: Heights) -> Solid
 }
 
 impl SoundPolygons<'_> {
-    // The solid of polygon i between two heights.
+    // The solid of polygon i between two heights. For a caller that has found i below the polygons.
     #[tactic(auto, using(crate::proofs::PolygonLaws::parts_passed))]
     pub fn solid(self, i: usize, heights: Heights) -> Solid
         requires { i < length self.lists.layers.now }

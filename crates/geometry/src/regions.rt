@@ -6,7 +6,7 @@ ghost use Rattle.geometry.specs.Regions.{listed, held_regions, all_equal, even_r
 
 use openrdson_core::{Material, PolygonNumber, Refusal, Solid, SolidRegion};
 
-// What a row of a region list is.
+// The kinds of rows of a region list.
 #[derive(Clone, Copy, Debug, PartialEq, Eq)]
 pub enum RowKind {
     Box,
@@ -52,7 +52,7 @@ impl TryFrom<u8> for RowKind {
     }
 }
 
-// Stands for the polygon of a region that came from none.
+// The polygon number of a region that came from no polygon.
 pub const NO_POLYGON: u32 = 4294967295;
 
 // The largest material number.
@@ -190,7 +190,7 @@ impl EvenRegions<'_> {
         })
     }
 
-    // The region of row i, beside point lists of so many entries; 15. It is `pub` for the crate above, which has found row i in the lists.
+    // The region of row i, beside point lists of so many entries; 15. For a caller that has found row i in the lists.
     #[tactic(auto, unfolding(crate::specs::Regions::region_at))]
     pub fn region(self, points: usize, i: usize) -> Result<SolidRegion, Refusal>
         requires { i < length self.lists.kinds.now }

@@ -1,5 +1,5 @@
-// Stacking a layout: the regions of its polygons, and one outcome a polygon. `Even` is asked of the region lists: a struct of `&mut` lists that keeps a fact
-// cannot be lent on.
+// Stacking a layout: the regions of its polygons, and one outcome a polygon. Each function asks for `Even` of the region lists: a struct of `&mut` lists that
+// keeps the fact cannot be lent on.
 ghost use Rattle.std.specs.Prelude.{◌≡◌, ◌+◌, ◌<◌, ◌≤◌, length};
 ghost use Rattle.lists.specs.Lists.{put};
 ghost use Rattle.openrdson_core.specs.Tech.{bytes_of};
@@ -34,7 +34,7 @@ fn rows_of(plan: Plan) -> usize
     if plan.is_ok() { 1 } else { 0 }
 }
 
-// Writes the region of polygon i, if its plan gives one, as row k. There is room for it.
+// Writes the region of polygon i, if its plan gives one, as row k. For a caller that has found room for it.
 #[tactic(auto, using(crate::proofs::RowLaws::no_rows))]
 fn place_polygon(
     polygons: SoundPolygons<'_>,
@@ -63,19 +63,18 @@ fn place_polygon(
 }
 
 // How many regions the polygons give.
-#[tactic(auto, using(crate::proofs::StackLaws::rows_none, crate::proofs::StackLaws::rows_step, crate::proofs::StackLaws::one_row, crate::proofs::StackLaws::rows_few))]
 fn count_rows(names: LayerNames<'_>, plans: &[Plan; 256], polygons: SoundPolygons<'_>) -> usize
     ensures { result ≡ spec.rows_to (λ i. layer_plan names.entry.bytes.now plans.now (layer_at (polygons_of polygons.entry.lists) i)) (length polygons.entry.lists.layers.now) }
 {
-    let layers = polygons.lists.layers;
-    let mut rows = 0;
-    for i in 0..layers.len() {
-        rows += rows_of(plan_of_layer(names, plans, layers[i]));
-    }
-    rows
+    polygons
+        .lists
+        .layers
+        .iter()
+        .filter(|layer| plan_of_layer(names, plans, **layer).is_ok())
+        .count()
 }
 
-// Writes the regions of all polygons, from row 0 on, and their outcomes. There is room for them.
+// Writes the regions of all polygons, from row 0 on, and their outcomes. For a caller that has found room for them.
 #[tactic(auto, using(crate::proofs::StackLaws::one_row, crate::proofs::StackLaws::rows_few, lists::proofs::Fills::all_elems), unfolding(crate::specs::Stack::outcomes_to))]
 fn place_polygons(
     names: LayerNames<'_>,
@@ -101,7 +100,7 @@ fn place_polygons(
     }
 }
 
-// 12, or all regions and outcomes are written. The plans take 8,192 bytes of stack.
+// Writes all regions and outcomes, and counts the regions; 12. The plans take 8,192 bytes of stack.
 fn stack_checked(
     blocks: SoundBlocks<'_>,
     polygons: SoundPolygons<'_>,
@@ -136,7 +135,7 @@ pub fn assemble_stack(
     ensures same { SameRegions regions.old regions.new }
 {
     let blocks = blocks.checked()?;
-    // The polygons' lists come first in document 01, with the same refusal.
+    // The definition asks this of the polygons' lists first: the number is the same.
     if !regions.is_even() {
         return Err(Refusal::UnequalLists);
     }

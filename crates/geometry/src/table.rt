@@ -1,4 +1,4 @@
-// The plans of the rows of a layer-name block: each is worked out once, however many polygons a layer has.
+// The plans of the rows of a block of layer names: each is worked out once, however many polygons the layer has.
 ghost use Rattle.std.specs.Prelude.{◌≡◌};
 ghost use Rattle.lists.specs.Lists.{put, elems};
 ghost use Rattle.openrdson_core.specs.Blocks.{count};

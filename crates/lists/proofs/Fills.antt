@@ -1,13 +1,12 @@
 -- A loop that fills a lent list from a place on. After some turns the list is `put l at new`, where new is what has been written so far.
---     put-none      nothing written yet: the list itself
---     put-length    a run that fits keeps the length
---     put-more      a run written right after another: one longer run
---     put-set       one element stored right after: the same for a run of one
---     put-sets      a run of stores, as straight-line code leaves it
---     runs-more, elems-more     one more run, one more element, at the code's n + 1
---     put_whole, put-start      a run as long as the list; the start of a list that a run was written over
---     elems-same, elems-front   equal elements; the first and the others
---     elems_at, put-at          an entry of what was written
+--     put_none      nothing written yet: the list itself
+--     put_length    a run that fits keeps the length
+--     put_more      a run written right after another: one longer run
+--     put_set       one element stored right after: the same for a run of one
+--     put_sets      a run of stores, as code without a loop leaves it
+--     put_whole, put_start      a run as long as the list; the start of a list that a run was written over
+--     elems_same, elems_front   equal elements; the first and the others
+--     elems_at, put_at          an entry of what was written
 -- Assumes nothing.
 use mathlib.Core.Path.{◌≡◌, refl, sym, ap, ◌∙◌}
 use mathlib.Core.List.{List, [], ◌∷◌, ◌++◌, append_assoc, append-nil}

@@ -1,4 +1,4 @@
--- A loop that takes a state from place to place. Its invariant: the state is `fold_below i step start`. Assumes nothing.
+-- A loop that carries a state from place to place. Its invariant: the state is `fold_below i step start`. Assumes nothing.
 use mathlib.Core.Path.{◌≡◌, refl, sym, ap, ◌∙◌}
 use Prim.Native.Nat.{ℕ, zero, suc, ◌+◌, ◌-◌, ◌≤◌, ◌<◌}
 use native.Mathlib.Nat.{add-zero, add-suc, eq-or-lt_of_le}
@@ -24,7 +24,7 @@ module _ {S : Type 0} (step : S → ℕ → S) (start : S) where
   pub fold_end : {i n : ℕ} {state : S} → state ≡ fold_below i step start → i ≡ n → state ≡ fold_below n step start
   fold_end e h = e ∙ ap (λ (k : ℕ). fold_below k step start) h
 
--- ---- a loop that stops at the first place that is turned down. Its invariant: the state is given by `fold_answer i step start`.
+-- ---- a loop that stops at the first place that is refused. Its invariant: the state is given by `fold_answer i step start`.
 
 module _ {S : Type 0} (step : S → ℕ → Answer S) (start : S) where
   pub steps_start : given start ≡ fold_answer 0 step start
@@ -44,7 +44,7 @@ module _ {S : Type 0} (step : S → ℕ → Answer S) (start : S) where
   stays i zero e = rw (add-zero i) e
   stays i (suc k) e = rw (add-suc i k, ← stays i k e)
 
-  -- place i is turned down, whatever comes after
+  -- place i is refused, whatever comes after
   pub steps_stop : (i m : ℕ) {state : S} {n : ℕ} → i < m → given state ≡ fold_answer i step start → refused n ≡ step state i → refused n ≡ fold_answer m step start
   steps_stop i m h e is =
       let d : i + 1 + (m - (i + 1)) ≡ m = omega arith in

@@ -1,4 +1,5 @@
--- f of each entry of a list, one run after the other: of two lists, how long, written after what was written before, and as the runs that a loop writes. Assumes nothing.
+-- f of each entry of a list, one run after the other: of two lists, how long, written after what was written before, and as the runs that a loop
+-- writes. Assumes nothing.
 use mathlib.Core.Path.{◌≡◌, refl, sym, ap, ◌∙◌}
 use mathlib.Core.List.{List, [], ◌∷◌, ◌++◌, append_assoc, append-nil}
 use Prim.Native.Nat.{ℕ, zero, suc, ◌+◌, ◌*◌, ◌≤◌}

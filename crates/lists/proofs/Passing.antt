@@ -284,7 +284,7 @@ module _ {A : Type 0} (test : A → Bool) (f : ℕ → A) (l : List A) (m : ℕ)
           long = a.long;
         }
 
--- those that pass p, in any order, taken on to those that pass q: kept if they pass it, and joined by those that pass only it
+-- from the entries that pass p, in any order, to those that pass q: the ones of them that pass q, and those that pass q and not p
 module _ {A : Type 0} (p q : A → Bool) where
   on : (b s t : Bool) → bit (b && (s && t)) + bit ((s && not b) && t) ≡ bit (s && t)
   on true true true = refl

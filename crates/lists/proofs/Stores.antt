@@ -10,7 +10,7 @@ use Rattle.lists.specs.Lists.{put, runs, elems, gather}
 use Rattle.lists.proofs.Fills.{put_none, put_set, put_start}
 use Rattle.lists.proofs.Places.{gather_length}
 
--- an entry of a list that f was put on
+-- an entry of a list that f is mapped over
 pub map_at : {A B : Type 0} (f : A → B) (l : List A) (i : ℕ) (a : A) (b : B) → i < length l → get_or (map f l) i b ≡ f (get_or l i a)
 map_at f [] i a b h = absurd (omega arith)
 map_at f (x ∷ l) zero a b h = refl

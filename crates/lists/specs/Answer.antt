@@ -1,4 +1,4 @@
--- What a call answers: turned down with a refusal number of document 01, or what it gives.
+-- What a call answers: the number of its refusal, or what it gives.
 use Rattle.std.specs.Prelude.{ℕ, zero, suc, Bool, true, false}
 
 pub data Answer (A : Type 0) : Type 0 where
@@ -6,7 +6,7 @@ pub data Answer (A : Type 0) : Type 0 where
   given : A → Answer A
 
 module _ {A : Type 0} where
-  -- One row of document 01's refusals: where the test fails the call is turned down with number n, else the rest decides.
+  -- One row of a call's refusals: where the test fails, the call is refused with the number n; else the rest decides.
   abbrev pub unless : Bool → ℕ → Answer A → Answer A
   unless true n rest = rest
   unless false n rest = refused n
@@ -16,6 +16,7 @@ module _ {A : Type 0} where
   and_then (refused n) next = refused n
   and_then (given a) next = next a
 
+  -- f of what was given
   abbrev pub map_answer : {B : Type 0} → (A → B) → Answer A → Answer B
   map_answer f (refused n) = refused n
   map_answer f (given a) = given (f a)
@@ -30,7 +31,7 @@ module _ {A : Type 0} where
   status (refused n) = n
   status (given a) = 0
 
--- a state that is taken on from place to place over the places below n; the first place that is turned down decides
+-- a state that is carried over the places below n, in order; the first place that is refused decides
 unfoldable pub fold_answer : {S : Type 0} → ℕ → (S → ℕ → Answer S) → S → Answer S
 fold_answer zero step start = given start
 fold_answer (suc n) step start = and_then (fold_answer n step start) (λ s. step s n)

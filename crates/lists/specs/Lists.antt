@@ -48,16 +48,17 @@ Below n (k ∷ ks) = (k < n) × Below n ks
 
 -- ---- what a loop works out over the places below n, in order
 
--- a state that is taken on from place to place
+-- a state that is carried from place to place
 unfoldable pub fold_below : {S : Type 0} → ℕ → (S → ℕ → S) → S → S
 fold_below zero step start = start
 fold_below (suc n) step start = step (fold_below n step start) n
 
--- the test holds at every place, at some place
+-- the test holds at every place
 unfoldable pub all_below : ℕ → (ℕ → Bool) → Bool
 all_below zero test = true
 all_below (suc n) test = all_below n test && test n
 
+-- the test holds at some place
 unfoldable pub any_below : ℕ → (ℕ → Bool) → Bool
 any_below zero test = false
 any_below (suc n) test = any_below n test || test n
@@ -67,10 +68,12 @@ unfoldable pub first : (ℕ → Bool) → ℕ → ℕ → Option ℕ
 first test zero i = None
 first test (suc n) i = let later = first test n (i + 1) in cond (test i) (Some i) later
 
--- ---- neighbours on a ring of n places: the first and the last are neighbours
+-- ---- neighbours on a ring of n places
 
+-- the place after place i, and place 0 after the last
 abbrev pub next_of : ℕ → ℕ → ℕ
 next_of n i = cond (ltb (i + 1) n) (i + 1) 0
 
+-- the place before place i, and the last before place 0
 abbrev pub prev_of : ℕ → ℕ → ℕ
 prev_of n i = cond (ltb 0 i) (i - 1) (n - 1)

@@ -1,7 +1,7 @@
 -- A box judged from numbers and the lists' lengths is judged as `mesh_box` says, and what there is for a box that is meshed. Assumes nothing.
 use mathlib.Core.Path.{◌≡◌, refl, ap, subst, ◌∙◌}
 use mathlib.Core.Bool.{Bool, true, false, ◌&&◌}
-use Prim.Native.Nat.{ℕ, ◌+◌, ◌*◌, ◌≤◌}
+use Prim.Native.Nat.{ℕ, ◌*◌, ◌≤◌}
 use native.Mathlib.Nat.{mul-le-mul}
 use mir.Val.{Fits}
 use mir.Syntax.{w64}
@@ -10,7 +10,7 @@ use lib.Dec.{leb}
 use lib.ListN.{length}
 use lib.Ieee.{Float, lt}
 use borrow.Author.Tests.{leb-true}
-use Rattle.lists.specs.Answer.{Answer, refused, given, unless, map_answer}
+use Rattle.lists.specs.Answer.{Answer, given, unless, map_answer}
 use Rattle.lists.proofs.Answers.{passed, given_same}
 use Rattle.lists.proofs.Scans.{both}
 use Rattle.binary64.specs.Numbers.{◌⊖◌, at_most}
@@ -18,13 +18,14 @@ use Rattle.binary64.specs.Constants.{zero64}
 use Rattle.openrdson_core.specs.Mesh.{Mesh, parallel_lengths, parallel, within_lengths, within, fits}
 use Rattle.openrdson_core.specs.declared.mesh.Counts.{Counts}
 use Rattle.openrdson_core.specs.declared.bounds.Bbox.{Bbox}
-use Rattle.openrdson_core.proofs.MeshLaws.{equal_lengths, counts_in, room_for}
+use Rattle.openrdson_core.proofs.MeshLaws.{equal_lengths, counts_in}
 use Rattle.meshing.specs.declared.cells.MeshConfig.{MeshConfig}
 use Rattle.meshing.specs.Cells.{cells_for}
 use Rattle.meshing.specs.Grid.{grid_nodes, grid_cells}
 use Rattle.meshing.specs.Added.{Part}
 use Rattle.meshing.specs.Boxes.{Axis, axis_of, is_wide, is_few, box_fits, box_of, mesh_box, BoxCells, the_cells, box_of_cells, room_judged, cells_judged, bounds_in, box_judged, BoxFits}
 use Rattle.meshing.proofs.CellLaws.{some_cell}
+use Rattle.meshing.proofs.Rooms.{room_in}
 
 -- ---- products of cells and of nodes
 
@@ -122,36 +123,27 @@ module _ (b : Bbox) (z0 z1 : Float) (material : ℕ) (config : MeshConfig) (c : 
       1
       (cells_judged (b.max_x ⊖ b.min_x) (b.max_y ⊖ b.min_y) (z1 ⊖ z0) config c (length m.xs) (length m.kinds)))
 
-  pub box_refused : {k : ℕ} → judged ≡ refused k → mesh_box b z0 z1 material config c m ≡ refused k
-  box_refused e = box_judged_lem ∙ ap (map_answer part) e
-
-  pub box_given : {n : BoxCells} → judged ≡ given n → mesh_box b z0 z1 material config c m ≡ given (box_of_cells c.nodes b z0 z1 n)
-  box_given e = box_judged_lem ∙ ap (map_answer part) e
+  pub box_is : {a : Answer BoxCells} → judged ≡ a → mesh_box b z0 z1 material config c m ≡ map_answer (box_of_cells c.nodes b z0 z1) a
+  box_is e = box_judged_lem ∙ ap (map_answer part) e
 
 -- ---- what there is for a box that is given its cells
 
--- its cells, and room for them
-record Roomy (c : Counts) (nodes kinds : ℕ) (n : BoxCells) : Type 0 where
-  some : (1 ≤ n.nx) × (1 ≤ n.ny) × (1 ≤ n.nz)
-  few : (n.nx ≤ 4096) × (n.ny ≤ 4096) × (n.nz ≤ 4096)
-  nodes_room : (c.nodes + grid_nodes n.nx n.ny n.nz ≤ 1048576) × (c.nodes + grid_nodes n.nx n.ny n.nz ≤ nodes)
-  elements_room : (c.elements + grid_cells n.nx n.ny n.nz ≤ 1048576) × (c.elements + grid_cells n.nx n.ny n.nz ≤ kinds)
+-- its cells, and that its nodes and hexes fit
+pub record BoxSized (c : Counts) (nodes kinds : ℕ) (n : BoxCells) : Type 0 where
+  pub some : (1 ≤ n.nx) × (1 ≤ n.ny) × (1 ≤ n.nz)
+  pub few : (n.nx ≤ 4096) × (n.ny ≤ 4096) × (n.nz ≤ 4096)
+  pub nodes_fit : fits (grid_nodes n.nx n.ny n.nz) c.nodes nodes ≡ true
+  pub hexes_fit : fits (grid_cells n.nx n.ny n.nz) c.elements kinds ≡ true
 
 module _ (c : Counts) (nodes kinds : ℕ) where
-  room_passed : (k n : BoxCells) → room_judged k c nodes kinds ≡ given n → (1 ≤ k.nx) × (1 ≤ k.ny) × (1 ≤ k.nz) → (k.nx ≤ 4096) × (k.ny ≤ 4096) × (k.nz ≤ 4096) → Roomy c nodes kinds n
+  room_passed : (k n : BoxCells) → room_judged k c nodes kinds ≡ given n → (1 ≤ k.nx) × (1 ≤ k.ny) × (1 ≤ k.nz) → (k.nx ≤ 4096) × (k.ny ≤ 4096) × (k.nz ≤ 4096) → BoxSized c nodes kinds n
   unfolding room_judged
   room_passed k n e some few =
       let first = passed (fits (grid_nodes k.nx k.ny k.nz) c.nodes nodes) 12 _ e in
       let second = passed (fits (grid_cells k.nx k.ny k.nz) c.elements kinds) 12 _ first.1 in
-      subst (Roomy c nodes kinds) (given_same second.1)
-      (record {
-        some = some;
-        few = few;
-        nodes_room = room_for _ _ _ first.0;
-        elements_room = room_for _ _ _ second.0;
-      })
+      subst (BoxSized c nodes kinds) (given_same second.1) (record { some = some; few = few; nodes_fit = first.0; hexes_fit = second.0 })
 
-  cells_passed : (dx dy dz : Float) (config : MeshConfig) (n : BoxCells) → cells_judged dx dy dz config c nodes kinds ≡ given n → Roomy c nodes kinds n
+  cells_passed : (dx dy dz : Float) (config : MeshConfig) (n : BoxCells) → cells_judged dx dy dz config c nodes kinds ≡ given n → BoxSized c nodes kinds n
   unfolding cells_judged
   cells_passed dx dy dz config n e =
       let across = config.lateral_cell in
@@ -167,32 +159,41 @@ module _ (c : Counts) (nodes kinds : ℕ) where
       (some_cell dx across, some_cell dy across, some_cell dz up)
       (all_few (cells_for dx across) (cells_for dy across) (cells_for dz up) few.0)
 
-pub judged_fits : (b : Bbox) (z0 z1 : Float) (material : ℕ) (config : MeshConfig) (c : Counts) (xs ys zs kinds places regions : ℕ) (n : BoxCells)
-    → box_judged b z0 z1 material config c xs ys zs kinds places regions ≡ given n → BoxFits c xs ys zs kinds places regions n
-unfolding box_judged
-judged_fits b z0 z1 material config c xs ys zs kinds places regions n e =
-    let even = passed (parallel_lengths xs ys zs kinds places regions) 16 _ e in
-    let counted = passed (within_lengths c xs kinds) 15 _ even.1 in
-    let known = passed (leb material 768) 15 _ counted.1 in
-    let bounded = passed (bounds_in b z0 z1) 1 _ known.1 in
-    let lists = equal_lengths xs ys zs kinds places regions even.0 in
-    let within = counts_in c xs kinds counted.0 in
-    let roomy = cells_passed c xs kinds (b.max_x ⊖ b.min_x) (b.max_y ⊖ b.min_y) (z1 ⊖ z0) config n bounded.1 in
-    record {
-      same_ys = lists.same_ys;
-      same_zs = lists.same_zs;
-      same_regions = lists.same_regions;
-      eight_places = lists.eight_places;
-      nodes_in = within.0;
-      elements_in = within.1;
-      some_x = roomy.some.0;
-      some_y = roomy.some.1;
-      some_z = roomy.some.2;
-      few_x = roomy.few.0;
-      few_y = roomy.few.1;
-      few_z = roomy.few.2;
-      nodes_most = roomy.nodes_room.0;
-      nodes_room = roomy.nodes_room.1;
-      elements_most = roomy.elements_room.0;
-      elements_room = roomy.elements_room.1;
-    }
+module _ (b : Bbox) (z0 z1 : Float) (material : ℕ) (config : MeshConfig) (c : Counts) (xs ys zs kinds places regions : ℕ) (n : BoxCells)
+    (e : box_judged b z0 z1 material config c xs ys zs kinds places regions ≡ given n) where
+  judged_passed : (parallel_lengths xs ys zs kinds places regions ≡ true) × (within_lengths c xs kinds ≡ true) × BoxSized c xs kinds n
+  unfolding box_judged
+  judged_passed =
+      let even = passed (parallel_lengths xs ys zs kinds places regions) 16 _ e in
+      let counted = passed (within_lengths c xs kinds) 15 _ even.1 in
+      let known = passed (leb material 768) 15 _ counted.1 in
+      let bounded = passed (bounds_in b z0 z1) 1 _ known.1 in
+      (even.0, counted.0, cells_passed c xs kinds (b.max_x ⊖ b.min_x) (b.max_y ⊖ b.min_y) (z1 ⊖ z0) config n bounded.1)
+
+  pub judged_sized : BoxSized c xs kinds n
+  judged_sized = judged_passed.2
+
+  pub judged_fits : BoxFits c xs ys zs kinds places regions n
+  judged_fits =
+      let lists = equal_lengths xs ys zs kinds places regions judged_passed.0 in
+      let within = counts_in c xs kinds judged_passed.1 in
+      let s = judged_passed.2 in
+      let room = room_in _ _ _ _ _ _ _ _ _ judged_passed.0 s.nodes_fit s.hexes_fit in
+      record {
+        same_ys = lists.same_ys;
+        same_zs = lists.same_zs;
+        same_regions = lists.same_regions;
+        eight_places = lists.eight_places;
+        nodes_in = within.0;
+        elements_in = within.1;
+        some_x = s.some.0;
+        some_y = s.some.1;
+        some_z = s.some.2;
+        few_x = s.few.0;
+        few_y = s.few.1;
+        few_z = s.few.2;
+        nodes_most = room.nodes_most;
+        nodes_room = room.in_xs;
+        elements_most = room.elements_most;
+        elements_room = room.in_kinds;
+      }

@@ -6,7 +6,7 @@ use Rattle.std.specs.Prelude.{Some, None}
 use Prim.Native.Nat.{ℕ, suc, ◌+◌, ◌-◌, ◌*◌, ◌≤◌, ◌<◌}
 use native.Mathlib.Nat.{add-zero}
 use native.Mathlib.Omega.{arith}
-use lib.ListN.{length, get_or, take, drop, length-append, length-take, length-drop}
+use lib.ListN.{length, get_or, take, drop, length-append, length-drop}
 use Rattle.std.specs.Prelude.{Some, None}
 use lib.Seq.{length-take-le, take_at, drop_at, append_snoc, get_or-drop}
 use Rattle.std.specs.List.{copy_within}
@@ -18,13 +18,11 @@ use Rattle.lists.proofs.Parts.{rest_back_long, rest_back_later}
 use Rattle.lists.proofs.Searches.{first_below}
 use Rattle.meshing.specs.Triangles.{Triangle, tri, corners}
 use Rattle.meshing.specs.Clipping.{triangle_at, without, cut_at, cutting, clip}
+use Rattle.meshing.proofs.Clipped.{without_length}
 
 -- ---- a place taken out of a walk
 
 module _ (w : List ℕ) (i : ℕ) where
-  pub without_length : i < length w → length (without w i) + 1 ≡ length w
-  without_length h = simp (length-append, length-take, length-drop) (omega arith)
-
   -- the places before i move one up
   pub moved_up : i < length w → drop 1 (copy_within w 0 i 1) ≡ without w i
   moved_up h =

@@ -18,7 +18,7 @@ pub data Clipped (ear : List ℕ → ℕ → Bool) : List ℕ → List Triangle 
   last : (x y z : ℕ) → Clipped ear (x ∷ y ∷ z ∷ []) (tri x y z ∷ [])
   cut : (w : List ℕ) (i : ℕ) (ts : List Triangle) → i < length w → 3 < length w → ear w i ≡ true → ((j : ℕ) → j < i → ear w j ≡ false) → Clipped ear (without w i) ts → Clipped ear w (triangle_at w i ∷ ts)
 
-without_length : (w : List ℕ) (i : ℕ) → i < length w → length (without w i) + 1 ≡ length w
+pub without_length : (w : List ℕ) (i : ℕ) → i < length w → length (without w i) + 1 ≡ length w
 without_length w i h = simp (length-append, length-take, length-drop) (omega arith)
 
 last_three : (ear : List ℕ → ℕ → Bool) (w : List ℕ) (ts : List Triangle) → length w ≡ 3 → given (tri (here w 0) (here w 1) (here w 2) ∷ []) ≡ given ts → Clipped ear w ts

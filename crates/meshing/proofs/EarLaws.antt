@@ -1,6 +1,6 @@
 -- The ear rule, test by test, and what a search for the first ear tells. Assumes nothing.
 use mathlib.Core.Path.{◌≡◌, refl, sym, ◌∙◌}
-use mathlib.Core.Bool.{Bool, true, false, not, ◌&&◌, ◌||◌, false≢true}
+use mathlib.Core.Bool.{Bool, true, false, not, ◌&&◌, ◌||◌, false≢true, and-true}
 use mathlib.Core.List.{List}
 use Prim.Native.Nat.{ℕ}
 use lib.Dec.{eqb}
@@ -55,14 +55,10 @@ module _ (xs ys : List Float) (a b c j : ℕ) (p pa pb pc : Point) (is-p : p ≡
 
   pub blocks_inside : r ≡ true → not (eqb j a || eqb j b || eqb j c) ≡ blocks xs ys a b c j
   unfolding blocks
-  blocks_inside e = rw (asked true e) (sym (and_true (not (eqb j a || eqb j b || eqb j c))))
-    where
-      and_true : (q : Bool) → (q && true) ≡ q
-      and_true true = refl
-      and_true false = refl
+  blocks_inside e = rw (asked true e) (sym (and-true (not (eqb j a || eqb j b || eqb j c))))
 
 -- ---- the ear test at place i of a walk
 
--- vertex j of the walk is no hindrance to the triangle a b c
+-- vertex j of the walk does not block the triangle a b c
 abbrev pub free : List Float → List Float → List ℕ → ℕ → ℕ → ℕ → ℕ → Bool
 free xs ys w a b c j = not (blocks xs ys a b c (get_or w j 0))

@@ -1,12 +1,12 @@
 -- A box's nodes and hexes: how long the lists are, that the hexes name nodes of the box, and what the loops that write them work out.
---     grid-length, hexes-length                  the theorems
---     hexes-below, hexes-from
---     axis-inner, axis-last                      a coordinate, from the step of its axis
---     hex-is, hex-row, hex-plane                 a hex from its first node, a row from its first hex, a plane from its first row
+--     grid_length, hexes_length                  how long the lists are
+--     hexes_below, hexes_from                    the hexes name nodes of the box
+--     axis_inner, axis_last                      a coordinate, from the step of its axis
+--     hex_is, hex_row, hex_plane                 a hex from its first node, a row from its first hex, a plane from its first row
 -- Assumes nothing.
 use mathlib.Core.Path.{◌≡◌, refl, sym, ap, ◌∙◌}
 use mathlib.Core.Bool.{Bool, true}
-use mathlib.Core.List.{List, [], ◌∷◌, ◌++◌}
+use mathlib.Core.List.{List, [], ◌∷◌}
 use Prim.Native.Nat.{ℕ, zero, suc, ◌+◌, ◌*◌, ◌≤◌, ◌<◌}
 use native.Mathlib.Nat.{mul_comm, mul_assoc, mul-add, mul-one, mul-zero, mul-le-mul}
 use native.Mathlib.Omega.{arith}
@@ -20,6 +20,7 @@ use borrow.Author.Tests.{eq-eqb, ne_eqb, le-leb}
 use Rattle.lists.specs.Lists.{runs, elems, all_of, Below}
 use Rattle.lists.proofs.Fills.{runs_length, elems_length, run_room}
 use Rattle.lists.proofs.Passing.{all_of_runs}
+use Rattle.lists.proofs.Places.{below_append}
 use Rattle.binary64.specs.Numbers.{◌⊕◌, ◌⊖◌, ◌⊗◌, ◌⊘◌}
 use Rattle.meshing.specs.Cells.{real, axis_at}
 use Rattle.meshing.specs.Grid.{plane, grid, grid_nodes, grid_cells, node_at, hex_at, hex_places}
@@ -114,14 +115,10 @@ hex_plane base nx ny i j k a e =
 
 -- ---- every place is the number of a node of the box
 
-below_both : (n : ℕ) (a b : List ℕ) → Below n a → Below n b → Below n (a ++ b)
-below_both n [] b p q = q
-below_both n (x ∷ a) b p q = (p.0, below_both n a b p.1 q)
-
 below_runs : (n m : ℕ) (f : ℕ → List ℕ) → ((i : ℕ) → i < m → Below n (f i)) → Below n (runs m f)
 unfolding runs
 below_runs n zero f each = tt
-below_runs n (suc m) f each = below_both n (runs m f) (f m) (below_runs n m f (λ i h. each i (omega arith))) (each m (omega arith))
+below_runs n (suc m) f each = below_append n (runs m f) (f m) (below_runs n m f (λ i h. each i (omega arith))) (each m (omega arith))
 
 node_below : (base nx ny nz i j k : ℕ) → i ≤ nx → j ≤ ny → k ≤ nz → node_at base nx ny i j k < base + grid_nodes nx ny nz
 node_below base nx ny nz i j k hi hj hk =

@@ -1,4 +1,4 @@
--- The levels, turn by turn: close heights are dropped; a height that equals one that is there already comes to the same levels. Assumes nothing.
+-- The levels, turn by turn: close heights are dropped; a height that equals one that is there changes no level. Assumes nothing.
 use mathlib.Core.Path.{◌≡◌, refl, sym, ap, ◌∙◌}
 use mathlib.Core.Bool.{Bool, true, false, cond}
 use mathlib.Core.List.{List, [], ◌∷◌, ◌++◌, append-nil, append_assoc}
@@ -6,14 +6,19 @@ use Prim.Native.Nat.{ℕ, zero, suc, ◌+◌, ◌-◌, ◌≤◌, ◌<◌}
 use native.Mathlib.Nat.{not-suc-le-zero}
 use native.Mathlib.Numerals.{add-one}
 use native.Mathlib.Omega.{arith}
-use lib.ListN.{length, take, drop, set, drop_of_length-le}
+use lib.ListN.{length, take, drop, set, length-set, drop_of_length-le}
 use lib.Seq.{length-take-le, drop-cons, get_or-take, take-set-lt, drop-set-lt, take-suc-set}
+use lib.Dec.{ltb}
+use borrow.Author.Tests.{ltb-true, ltb-false}
+use Rattle.std.specs.Prelude.{Option, Some, None}
 use lib.Ieee.{Float, nan, lt, eq}
 use Rattle.lists.specs.Lists.{all_of}
 use Rattle.lists.specs.Sorts.{slot, insert_at, insert_by, sort_onto}
 use Rattle.lists.proofs.Scans.{both}
 use Rattle.lists.proofs.Passing.{all_of_at, all_of_drop}
-use Rattle.lists.proofs.Sorts.{Doubled, here, there, doubled_at, onto_doubled, onto_all, insert_all, insert_is}
+use Rattle.std.specs.List.{copy_within}
+use Rattle.std.proofs.lemmas.List.{drop-take, take_all}
+use Rattle.lists.proofs.Sorts.{shifted, shift_end, shifted_length, Doubled, here, there, doubled_at, onto_doubled, onto_all, insert_all, insert_is}
 use Rattle.binary64.specs.Numbers.{◌⊖◌, at, abs, at_most}
 use Rattle.binary64.specs.Constants.{tiny15}
 use Rattle.binary64.proofs.Order.{eq_le, eq_ge, le_not_lt}
@@ -86,7 +91,41 @@ alike : {a b : List Float} → Doubled Tied a b → all_of (at_most 20) a ≡ tr
 alike {a} d h rest g =
     apart_alike (onto_doubled lt Tied (λ z y w e. tied_above 20 z y e.0 e.1 e.2 e.3 w) rest d) (onto_all lt (at_most 20) a rest h g)
 
+-- ---- the place of a height, by the last place at which the test fails
+
+module _ (test : ℕ → Bool) where
+  slot_none : (n : ℕ) → ((i : ℕ) → i < n → test i ≡ true) → slot test n ≡ 0
+  unfolding slot
+  slot_none zero f = refl
+  slot_none (suc n) f = rw (f n (omega arith)) (slot_none n (λ i h. f i (omega arith)))
+
+  slot_some : (n j : ℕ) → j < n → test j ≡ false → ((i : ℕ) → j < i → i < n → test i ≡ true) → slot test n ≡ suc j
+  unfolding slot
+  slot_some zero j h t f = absurd (not-suc-le-zero h)
+  slot_some (suc n) j h t f = at (λ g. slot_some n j g t (λ i l k. f i l (omega arith))) (ltb j n) refl
+    where
+      at : (j < n → slot test n ≡ suc j) → (b : Bool) → ltb j n ≡ b → cond (test n) (slot test n) (suc n) ≡ suc j
+      at left true e = rw (f n (ltb-true j n e) (omega arith)) (left (ltb-true j n e))
+      at left false e = let q : n ≡ j = omega (arith, ltb-false j n e) in rw (q, t) refl
+
+  pub slot_last : (n : ℕ) (r : Option ℕ) (v : ℕ) → (r ≡ None → v ≡ 0) → ((j : ℕ) → r ≡ Some j → v ≡ j + 1) → (r ≡ None → (i : ℕ) → i < n → test i ≡ true)
+      → ((j : ℕ) → r ≡ Some j → (j < n) × (test j ≡ false) × ((i : ℕ) → j < i → i < n → test i ≡ true)) → (v ≡ slot test n) × (v ≤ n)
+  slot_last n None v a b p q = (a refl ∙ sym (slot_none n (p refl)), omega (arith, a refl))
+  slot_last n (Some j) v a b p q = let f = q j refl in (b j refl ∙ add-one j ∙ sym (slot_some n j f.0 f.1 f.2), omega (arith, b j refl, f.0))
+
 -- ---- a height is put in
+
+-- at place k, where those from k on have moved one to the right
+pub level_put : (l : List Float) (n k : ℕ) (y : Float) → n ≡ length l - 1 → k < length l → set (copy_within l k n (k + 1)) k y ≡ insert_at k y (take n l)
+level_put l n k y e h =
+    let long : length l ≡ n + 1 = omega arith in
+    let back : k + (n - k) ≡ n = omega arith in
+    let past : k + 1 + (n - k) ≡ suc n = omega arith in
+    let mid : take (n - k) (drop k l) ≡ drop k (take n l) = sym (drop-take k (n - k) l) ∙ ap (λ (j : ℕ). drop k (take j l)) back in
+    let is : copy_within l k n (k + 1) ≡ shifted l n k =
+    ap (λ (m : List Float). take (k + 1) l ++ m ++ drop (k + 1 + (n - k)) l) mid ∙ ap (λ (j : ℕ). take (k + 1) l ++ drop k (take n l) ++ drop j l) past ∙ ap (λ (j : ℕ). take j l ++ drop k (take n l) ++ drop (suc n) l) (add-one k) ∙ append_assoc (take (suc k) l) (drop k (take n l)) (drop (suc n) l) in
+    sym (take_all (n + 1) (set (copy_within l k n (k + 1)) k y) (omega (arith, length-set (copy_within l k n (k + 1)) k y, ap length is, shifted_length l n k (omega arith) (omega arith))))
+    ∙ shift_end l n k k y (copy_within l k n (k + 1)) is refl (omega arith) (omega arith)
 
 module _ (l : List Float) (y : Float) (k : ℕ) (is : k ≡ slot (λ j. lt y (at l j)) (length l)) (all : all_of (at_most 20) l ≡ true) (in_range : at_most 20 y ≡ true) where
   -- one equals it

@@ -6,12 +6,13 @@ pub mod Cutting
 pub mod Walks
 pub mod WalkLaws
 pub mod TriangulateLaws
-pub mod Demand
+pub mod Triangulations
 pub mod Written
 pub mod RingLaws
 pub mod EarLaws
 pub mod ClipLaws
 pub mod CellLaws
+pub mod Rooms
 pub mod BoxLaws
 pub mod GridLaws
 pub mod BoxWrites

@@ -1,14 +1,16 @@
 -- A model: what a row of the region list adds, and a turn of the loop over the regions. Assumes nothing.
-use Prim.Native.Nat.{ℕ, ◌+◌, ◌<◌}
+use Prim.Native.Nat.{ℕ, zero, suc, ◌+◌, ◌≤◌, ◌<◌}
+use native.Mathlib.Nat.{not-suc-le-zero}
 use mathlib.Core.Path.{◌≡◌, refl, sym, ap, ◌∙◌}
 use mathlib.Core.Bool.{Bool, true, false, ◌&&◌}
 use mathlib.Core.List.{List, [], ◌∷◌, ◌++◌}
 use native.Mathlib.Omega.{arith}
-use lib.Dec.{eqb, leb}
-use lib.ListN.{length, set, length-append}
-use borrow.Author.Tests.{eqb-true}
+use lib.Dec.{eqb, leb, ltb}
+use lib.ListN.{length, get_or, set, length-append}
+use borrow.Author.Tests.{eqb-true, eq-eqb, ne_eqb, ltb-true, ltb-false}
 use lib.Ieee.{Float}
-use Rattle.std.specs.Prelude.{Result, Ok, Err}
+use Rattle.binary64.specs.Numbers.{at}
+use Rattle.std.specs.Prelude.{◌≢◌, Result, Ok, Err}
 use Rattle.std.specs.Result.{result_unwrap_or}
 use Rattle.lists.specs.Answer.{Answer, refused, given, unless, and_then, map_answer, left, status}
 use Rattle.lists.specs.Lists.{put, fold_below, all_of}
@@ -28,12 +30,39 @@ use Rattle.meshing.specs.declared.cells.MeshConfig.{MeshConfig}
 use Rattle.meshing.specs.Added.{grown, Adds}
 use Rattle.meshing.specs.Regions.{mesh_region}
 use Rattle.meshing.specs.Models as spec
-use Rattle.meshing.specs.Models.{Overrides, the_overrides, no_overrides, even_overrides, named, config_for, Run, row_part, tried, run_to, mesh_model, model_judged, RunAs, ModelAs}
+use Rattle.meshing.specs.Models.{Overrides, the_overrides, no_overrides, even_overrides, named, chosen, config_for, Run, row_part, tried, run_to, mesh_model, model_judged, RunAs, ModelAs}
 
 -- the counts that a call gives, or those before it
 pub unwrapped : (r : Result Counts Refusal) (c : Counts) → result_unwrap_or r c ≡ left (answer r) c
 unwrapped (Ok d) c = refl
 unwrapped (Err why) c = refl
+
+-- the cell sizes of a material: no override names it, or i is the last that does
+module _ (o : Overrides) (default : MeshConfig) (material : ℕ) where
+  default_below : (n : ℕ) → ((i : ℕ) → i < n → get_or o.materials i 0 ≢ material) → default ≡ fold_below n (chosen o material) default
+  unfolding fold_below
+  default_below zero f = refl
+  default_below (suc n) f = rw (ne_eqb (get_or o.materials n 0) material (f n (omega arith))) (default_below n (λ i h. f i (omega arith)))
+
+  last_below : (n i : ℕ) → i < n → get_or o.materials i 0 ≡ material → ((k : ℕ) → i + 1 ≤ k → k < n → get_or o.materials k 0 ≢ material)
+      → record { lateral_cell = at o.laterals i; z_cell = at o.verticals i } ≡ fold_below n (chosen o material) default
+  unfolding fold_below
+  last_below zero i h e f = absurd (not-suc-le-zero h)
+  last_below (suc n) i h e f = go (λ g. last_below n i g e (λ k a b. f k a (omega arith))) (ltb i n) refl
+    where
+      go : (i < n → record { lateral_cell = at o.laterals i; z_cell = at o.verticals i } ≡ fold_below n (chosen o material) default) → (b : Bool) → ltb i n ≡ b
+          → record { lateral_cell = at o.laterals i; z_cell = at o.verticals i } ≡ chosen o material (fold_below n (chosen o material) default) n
+      go left true t = rw (ne_eqb (get_or o.materials n 0) material (f n (omega (arith, ltb-true i n t)) (omega arith))) (left (ltb-true i n t))
+      go left false t = let q : n ≡ i = omega (arith, ltb-false i n t) in rw (q, eq-eqb (get_or o.materials i 0) material e) refl
+
+  pub config_default : ((i : ℕ) → i < length o.materials → get_or o.materials i 0 ≢ material) → default ≡ config_for o default material
+  unfolding config_for
+  config_default f = default_below (length o.materials) f
+
+  pub config_last : (i : ℕ) → i < length o.materials → get_or o.materials i 0 ≡ material → ((k : ℕ) → i + 1 ≤ k → k < length o.materials → get_or o.materials k 0 ≢ material)
+      → record { lateral_cell = at o.laterals i; z_cell = at o.verticals i } ≡ config_for o default material
+  unfolding config_for
+  config_last i h e f = last_below (length o.materials) i h e f
 
 -- what std's `all` tells of a list, as a test of it
 pub all_decides : {A : Type 0} (test : A → Bool) (l : List A) (other : A) (r : Bool)
@@ -42,7 +71,7 @@ all_decides test l other true h = sym (all_of_from test l other (λ i g. h i oth
 all_decides test l other false h = sym (all_of_fails test l h.0 other h.1 (h.2 other))
 
 module _ (r : Regions) (px py : List Float) (o : Overrides) (default : MeshConfig) where
-  -- a row that is turned down, and one that is a region
+  -- a row that is refused, and one that is a region
   pub row_refused : (i : ℕ) (c : Counts) (m : Mesh) {k : ℕ} → refused k ≡ region_at r (length px) i → row_part r px py o default i c m ≡ refused k
   unfolding row_part
   row_refused i c m e = rw (sym e)
@@ -126,7 +155,7 @@ module _ (r : Regions) (px py : List Float) (o : Overrides) (default : MeshConfi
       chain (even_regions r) (eqb (length px) (length py)) (even_overrides o) (parallel m) (leb (length r.kinds) 4096) (leb (length px) 2097152) (leb (length o.materials) 4096) (within c m)
       (all_of named o.materials) (leb (length r.kinds) d) (run_to r px py o default c m (length r.kinds))
 
-  -- a job that is turned down leaves the lists
+  -- a job that is refused leaves the lists as they were
   pub model_refused : (ds : List ℕ) {a : Result Counts Refusal} {k : ℕ} → refused k ≡ job_judged → answer a ≡ refused k → ModelAs (mesh_model r px py o default c m d) m ds a m ds
   model_refused ds e f = rw (model_is, sym e) (record { answer = f; mesh = refl; diagnostics = refl })
 
@@ -135,7 +164,7 @@ module _ (r : Regions) (px py : List Float) (o : Overrides) (default : MeshConfi
       → ModelAs (mesh_model r px py o default c m d) m ds (Ok c') m' ds'
   model_done e s = rw (model_is, sym e) (record { answer = ap given s.counts; mesh = s.mesh; diagnostics = s.diagnostics })
 
--- ---- `mesh_model` is the options call with no override: by their contracts both answer and leave the same
+-- ---- `mesh_model` answers and leaves what `mesh_model_with_options` does with no override: by their contracts
 
 pub no_override : (r : Regions) (px py : List Float) (default : MeshConfig) (c : Counts) (m : Mesh) (d : ℕ) (ds : List ℕ) {m₁ m₂ : Mesh} {ds₁ ds₂ : List ℕ} {a₁ a₂ : Result Counts Refusal}
     → ModelAs (mesh_model r px py no_overrides default c m d) m ds a₁ m₁ ds₁

@@ -1,7 +1,7 @@
 -- Meshing a prism: its triangles written, the ring that it is cleaned to, how that is meshed, and the refusals in order. Assumes nothing.
 use mathlib.Core.Path.{◌≡◌, refl, sym, ap, ◌∙◌}
 use mathlib.Core.Bool.{Bool, true, false}
-use mathlib.Core.List.{List, [], ◌++◌}
+use mathlib.Core.List.{List, []}
 use Prim.Native.Nat.{ℕ, ◌+◌, ◌*◌, ◌/◌, ◌≤◌, ◌<◌}
 use native.Mathlib.Omega.{arith}
 use lib.Dec.{eqb, leb}
@@ -14,10 +14,10 @@ use Rattle.lists.specs.Answer.{Answer, refused, given, unless, and_then, map_ans
 use Rattle.lists.specs.Lists.{put, elems, joined, part, Below}
 use Rattle.lists.proofs.Answers.{refused_given}
 use Rattle.lists.proofs.Counts.{below_occurring}
-use Rattle.lists.proofs.Fills.{put_more, elems_length}
+use Rattle.lists.proofs.Fills.{elems_length}
 use Rattle.lists.proofs.Places.{below_at, gather_all}
 use Rattle.openrdson_core.specs.Bounds.{the_bbox}
-use Rattle.openrdson_core.specs.Mesh.{Mesh, the_mesh, the_counts, parallel, parallel_lengths, within, fits}
+use Rattle.openrdson_core.specs.Mesh.{Mesh, the_mesh, the_counts, parallel, within, fits}
 use Rattle.openrdson_core.specs.Points.{even_points, ring_fault}
 use Rattle.openrdson_core.specs.Solids.{heights_in}
 use Rattle.openrdson_core.specs.declared.mesh.Counts.{Counts}
@@ -25,7 +25,6 @@ use Rattle.openrdson_core.specs.declared.refusals.Refusal.{Refusal}
 use Rattle.openrdson_core.specs.declared.ring.SoundRing.{SoundRing}
 use Rattle.openrdson_core.specs.declared.solids.Solid.{Solid}
 use Rattle.openrdson_core.specs.declared.solids.Solid.TheVariants.{Box, Prism}
-use Rattle.openrdson_core.proofs.MeshLaws.{equal_lengths, room_for}
 use Rattle.openrdson_core.proofs.Rings.{fine_ring}
 use Rattle.meshing.specs.declared.cells.MeshConfig.{MeshConfig}
 use Rattle.meshing.specs.Added.{Part, fit_part, Adds}
@@ -39,7 +38,9 @@ use Rattle.meshing.specs.Prisms.{prism_places, triangles_part, ring_part, prism_
 use Rattle.meshing.specs.Regions.{mesh_region}
 use Rattle.meshing.proofs.BoxWrites.{same_mesh, same_adds}
 use Rattle.meshing.proofs.Chunks.{chunk_at}
-use Rattle.meshing.proofs.Demand.{triangles_triangulation}
+use Rattle.meshing.proofs.Triangulations.{triangles_triangulation}
+use Rattle.meshing.proofs.Placed.{put_two}
+use Rattle.meshing.proofs.Rooms.{Room}
 use Rattle.meshing.proofs.TriangulateLaws.{corners_length}
 use Rattle.meshing.proofs.Written.{triple_at}
 
@@ -72,40 +73,7 @@ module _ (l : List ℕ) {triangles : List (List ℕ)} (are : triangles ≡ first
 pub triples_many : (l : List ℕ) → corners (triples l) ≡ l → length l ≡ length (triples l) * 3
 triples_many l e = ap length (sym e) ∙ corners_length (triples l)
 
--- ---- room in a mesh's lists for so many nodes and elements
-
-pub record Room (c : Counts) (nodes elements xs ys zs kinds places regions : ℕ) : Type 0 where
-  pub nodes_most : c.nodes + nodes ≤ 1048576
-  pub elements_most : c.elements + elements ≤ 1048576
-  pub in_xs : c.nodes + nodes ≤ xs
-  pub in_ys : c.nodes + nodes ≤ ys
-  pub in_zs : c.nodes + nodes ≤ zs
-  pub in_kinds : c.elements + elements ≤ kinds
-  pub in_places : 8 * c.elements + 8 * elements ≤ places
-  pub in_regions : c.elements + elements ≤ regions
-
-pub room_in : (c : Counts) (nodes elements xs ys zs kinds places regions : ℕ) → parallel_lengths xs ys zs kinds places regions ≡ true → fits nodes c.nodes xs ≡ true → fits elements c.elements kinds ≡ true
-    → Room c nodes elements xs ys zs kinds places regions
-room_in c nodes elements xs ys zs kinds places regions p f g =
-    let lists = equal_lengths xs ys zs kinds places regions p in
-    let n = room_for nodes c.nodes xs f in
-    let e = room_for elements c.elements kinds g in
-    record {
-      nodes_most = n.0;
-      elements_most = e.0;
-      in_xs = n.1;
-      in_ys = omega (arith, n.1, lists.same_ys);
-      in_zs = omega (arith, n.1, lists.same_zs);
-      in_kinds = e.1;
-      in_places = omega (arith, e.1, lists.eight_places);
-      in_regions = omega (arith, e.1, lists.same_regions);
-    }
-
 -- ---- a ring's triangles as prisms: its nodes twice, and a prism for each triangle
-
--- a run, and another right after it
-pub put_two : {A : Type 0} (l a b : List A) (at p : ℕ) {once twice : List A} → once ≡ put l at a → twice ≡ put once p b → p ≡ at + length a → p + length b ≤ length l → twice ≡ put l at (a ++ b)
-put_two l a b at p e f h room = f ∙ ap (λ k. put k p b) e ∙ put_more l at a b p h room
 
 module _ (c : Counts) (m : Mesh) (z0 z1 : Float) (xs ys : List Float) (l : List ℕ) (whole : corners (triples l) ≡ l) where
   abbrev tris : Part

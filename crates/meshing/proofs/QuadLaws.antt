@@ -10,11 +10,10 @@ use lib.ListN.{length, get_or, drop, length-append}
 use lib.Seq.{drop-cons}
 use lib.Ieee.{Float}
 use Rattle.std.specs.Simd.{first_chunks}
-use Rattle.lists.specs.Lists.{put, joined, all_of, Below}
+use Rattle.lists.specs.Lists.{put, joined, all_of}
 use Rattle.lists.proofs.Fills.{put_none, put_length}
 use Rattle.lists.proofs.Joined.{joined_lengths, joined_length, joined_one, put_joined}
 use Rattle.lists.proofs.Passing.{all_of_append}
-use Rattle.lists.proofs.Places.{below_at}
 use Rattle.meshing.specs.declared.quads.Quad.{Quad}
 use Rattle.meshing.specs.declared.quads.Tally.{Tally}
 use Rattle.meshing.specs.declared.levels.Band.{Band}
@@ -63,8 +62,8 @@ module _ (n : ℕ) (es : List ℕ) {pairs : List (List ℕ)} (are : pairs ≡ fi
   second_is = ap (λ (ps : List (List ℕ)). get_or (get_or ps i []) 1 0) are ∙ chunk_at 2 (length es / 2) es i 1 h (omega arith)
 
   -- both are below n if all edges are
-  pub pair_below : Below n es → (get_or (get_or pairs i []) 0 0 < n) × (get_or (get_or pairs i []) 1 0 < n)
-  pair_below b = (omega (arith, first_is, below_at n es (i * 2) b (omega arith)), omega (arith, second_is, below_at n es (i * 2 + 1) b (omega arith)))
+  pub pair_below : ((j : ℕ) → j < length es → get_or es j 0 < n) → (get_or (get_or pairs i []) 0 0 < n) × (get_or (get_or pairs i []) 1 0 < n)
+  pair_below b = (omega (arith, first_is, b (i * 2) (omega arith)), omega (arith, second_is, b (i * 2 + 1) (omega arith)))
 
   module _ (xs ys : List Float) (b : Band) {q : Quad} (is : q ≡ quad_of xs ys b (get_or (get_or pairs i []) 0 0) (get_or (get_or pairs i []) 1 0)) where
     next : i * 2 + 2 ≡ (i + 1) * 2

@@ -1,5 +1,5 @@
 -- Cleaning, turn by turn: the loop over the points, how it ends, and the call's answer. Assumes nothing.
-use mathlib.Core.Path.{◌≡◌, refl, sym, ap, ◌∙◌}
+use mathlib.Core.Path.{◌≡◌, refl, sym, ap, subst, ◌∙◌}
 use mathlib.Core.Bool.{Bool, true, false, ◌&&◌, cond}
 use mathlib.Core.List.{List, [], ◌∷◌, ◌++◌}
 use Prim.Native.Nat.{ℕ, zero, suc, ◌+◌, ◌-◌, ◌≤◌, ◌<◌}
@@ -9,17 +9,22 @@ use lib.Dec.{ltb}
 use lib.ListN.{length, get_or, take, set, length-append, length-set, get_or-append}
 use lib.Seq.{length-take-le, take-take, take-suc-set, get_or-append-add}
 use lib.Ieee.{Float}
-use Rattle.std.specs.Prelude.{Result}
+use Rattle.std.specs.Prelude.{Result, Option, Some, None}
+use Rattle.std.specs.Option.{ok_or}
+use Rattle.std.specs.Bool.{MatchBool}
+use Rattle.std.specs.List.{range_with_len, AllWithin}
+use Rattle.std.proofs.lemmas.List.FromFn.{length-range_with_len, get_or-range_with_len}
 use borrow.Author.Tests.{lt-ltb, le-ltb, le-leb, lt-leb, eq-eqb, ne_eqb}
 use Rattle.lists.specs.Answer.{refused, given}
-use Rattle.lists.specs.Lists.{fold_below, put, runs, elems, Below}
+use Rattle.lists.specs.Lists.{fold_below, runs, elems, Below}
 use Rattle.lists.proofs.Fills.{elems_length, elems_suc, elems_at}
 use Rattle.lists.proofs.Places.{below_more, below_take}
 use Rattle.openrdson_core.specs.Points.{point_at, ring_fault}
 use Rattle.openrdson_core.specs.Answers.{answer}
 use Rattle.openrdson_core.specs.declared.points.Point.{Point}
 use Rattle.openrdson_core.specs.declared.refusals.Refusal.{Refusal}
-use Rattle.meshing.specs.Ring.{is_close, last_of, keep, drop_last, kept, dedup_ring, gathered, KeptIn, CleanedAs}
+use Rattle.openrdson_core.specs.declared.refusals.Refusal.TheVariants as refusal
+use Rattle.meshing.specs.Ring.{is_close, last_of, keep, drop_last, kept, dedup_ring, KeptIn, CleanedAs, CleanedIn}
 
 -- the last of a list with one more
 last_more : (ks : List ℕ) (i : ℕ) → last_of (ks ++ i ∷ []) ≡ i
@@ -108,29 +113,32 @@ module _ (xs ys : List Float) where
       at true = omega (arith, length-take-le (length ks - 1) ks (omega arith), kept_of_most (length xs))
       at false = kept_of_most (length xs)
 
-  -- ---- a clean ring: all are kept. The invariant of the loop that tests it is `kept_of xs ys i ≡ elems i (λ k. k)`.
+  -- ---- a clean ring: all are kept
 
   last_place : (i : ℕ) → 0 < i → last_of (elems i (λ k. k)) ≡ i - 1
   last_place i h = rw (elems_length (λ k. k) i) (elems_at (λ k. k) 0 i (i - 1) (omega arith))
 
-  pub clean_start : kept_of xs ys 1 ≡ elems 1 (λ k. k)
+  clean_start : kept_of xs ys 1 ≡ elems 1 (λ k. k)
   unfolding fold_below keep runs elems
   clean_start = refl
 
-  pub clean_more : (i : ℕ) {a b : Point} {close : Bool} → 0 < i → kept_of xs ys i ≡ elems i (λ k. k) → a ≡ point_at xs ys (i - 1) → b ≡ point_at xs ys i → close ≡ is_close a b → close ≡ false
-      → kept_of xs ys (i + 1) ≡ elems (i + 1) (λ k. k)
-  clean_more i {a} {b} h e p q t f =
+  clean_more : (i : ℕ) → 0 < i → kept_of xs ys i ≡ elems i (λ k. k) → is_close (point_at xs ys (i - 1)) (point_at xs ys i) ≡ false → kept_of xs ys (i + 1) ≡ elems (i + 1) (λ k. k)
+  clean_more i h e f =
       let far : is_close (point_at xs ys (last_of (elems i (λ k. k)))) (point_at xs ys i) ≡ false =
-      ap (λ (k : ℕ). is_close (point_at xs ys k) (point_at xs ys i)) (last_place i h)
-      ∙ ap (λ (x : Point). is_close x (point_at xs ys i)) (sym p)
-      ∙ ap (is_close a) (sym q)
-      ∙ sym t
-      ∙ f in
+      ap (λ (k : ℕ). is_close (point_at xs ys k) (point_at xs ys i)) (last_place i h) ∙ f in
       kept_more i
       ∙ ap (λ (ks : List ℕ). keep xs ys ks i) e
       ∙ keep_far (elems i (λ k. k)) i (omega (arith, elems_length (λ k. k) i)) far
       ∙ sym (elems_suc (λ k. k) i)
       ∙ ap (λ (n : ℕ). elems n (λ k. k)) (sym (add-one i))
+
+  clean_all : (n : ℕ) → ((i : ℕ) → 0 < i → i < n → is_close (point_at xs ys (i - 1)) (point_at xs ys i) ≡ false) → 0 < n → kept_of xs ys n ≡ elems n (λ k. k)
+  clean_all zero each h = absurd (omega arith)
+  clean_all (suc zero) each h = clean_start
+  clean_all (suc (suc n)) each h =
+      let before = clean_all (suc n) (λ i p l. each i p (omega arith)) (omega arith) in
+      let more = clean_more (suc n) (omega arith) before (each (suc n) (omega arith) (omega arith)) in
+      rw (sym (add-one (suc n))) more
 
   pub clean_few : length xs < 2 → kept xs ys ≡ elems (length xs) (λ k. k)
   unfolding kept drop_last fold_below keep runs elems
@@ -141,12 +149,17 @@ module _ (xs ys : List Float) where
       at (suc zero) l = refl
       at (suc (suc n)) l = absurd (omega arith)
 
-  pub clean_end : {i : ℕ} {a b : Point} {close : Bool} → 1 < length xs → i ≡ length xs → kept_of xs ys i ≡ elems i (λ k. k) → a ≡ point_at xs ys 0 → b ≡ point_at xs ys (length xs - 1) → close ≡ is_close a b → close ≡ false
-      → kept xs ys ≡ elems (length xs) (λ k. k)
+  -- no point is close to the one before it, by what `all` answers, and the last is not to the first
+  pub clean_end : (Not : Type 0) {apart close : Bool} {a b : Point} → 1 < length xs
+      → MatchBool apart (AllWithin (λ i. is_close (point_at xs ys (i - 1)) (point_at xs ys i) ≡ false) (range_with_len 1 (length xs - 1)) 0 (length (range_with_len 1 (length xs - 1)))) Not
+      → apart ≡ true → a ≡ point_at xs ys 0 → b ≡ point_at xs ys (length xs - 1) → close ≡ is_close a b → close ≡ false → kept xs ys ≡ elems (length xs) (λ k. k)
   unfolding kept drop_last
-  clean_end {i} {a} {b} more h e p q t f =
+  clean_end Not {apart} {close} {a} {b} more answered is p q t f =
       let n : ℕ = length xs in
-      let all : kept_of xs ys n ≡ elems n (λ k. k) = ap (kept_of xs ys) (sym h) ∙ e ∙ ap (λ (k : ℕ). elems k (λ k. k)) h in
+      let each = subst (λ r. MatchBool r (AllWithin (λ i. is_close (point_at xs ys (i - 1)) (point_at xs ys i) ≡ false) (range_with_len 1 (n - 1)) 0 (length (range_with_len 1 (n - 1)))) Not) is answered in
+      let place : (i : ℕ) → i < n - 1 → get_or (range_with_len 1 (n - 1)) i 0 ≡ 1 + i = λ i l. get_or-range_with_len 1 (n - 1) i 0 l in
+      let all : kept_of xs ys n ≡ elems n (λ k. k) =
+      clean_all n (λ i l h. subst (λ k. is_close (point_at xs ys (k - 1)) (point_at xs ys k) ≡ false) (omega (arith, place (i - 1) (omega arith))) (each (i - 1) 0 (omega arith) (omega (arith, length-range_with_len 1 (n - 1))))) (omega arith) in
       let far : is_close (point_at xs ys (get_or (elems n (λ k. k)) 0 0)) (point_at xs ys (last_of (elems n (λ k. k)))) ≡ false =
       ap (λ (k : ℕ). is_close (point_at xs ys k) (point_at xs ys (last_of (elems n (λ k. k))))) (elems_at (λ k. k) 0 n 0 (omega arith))
       ∙ ap (λ (k : ℕ). is_close (point_at xs ys 0) (point_at xs ys k)) (last_place n (omega arith))
@@ -275,14 +288,14 @@ module _ (xs ys : List Float) where
     unfolding dedup_ring
     dedup_refused w h e = rw (eq-eqb m n h, ← e)
 
-    module _ (h : m ≡ n) (fine : given tt ≡ ring_fault xs ys) (places : List ℕ) (are : places ≡ kept xs ys) where
-      pub dedup_short : m < length places → dedup_ring xs ys m n ≡ refused 12
+    module _ (h : m ≡ n) (fine : given tt ≡ ring_fault xs ys) where
+      dedup_short : m < length (kept xs ys) → dedup_ring xs ys m n ≡ refused 12
       unfolding dedup_ring
-      dedup_short l = rw (eq-eqb m n h, ← fine, ← are, lt-leb (length places) m l)
+      dedup_short l = rw (eq-eqb m n h, ← fine, lt-leb (length (kept xs ys)) m l)
 
-      pub dedup_fits : length places ≤ m → dedup_ring xs ys m n ≡ given places
+      dedup_fits : length (kept xs ys) ≤ m → dedup_ring xs ys m n ≡ given (kept xs ys)
       unfolding dedup_ring
-      dedup_fits l = rw (eq-eqb m n h, ← fine, ← are, le-leb (length places) m l)
+      dedup_fits l = rw (eq-eqb m n h, ← fine, le-leb (length (kept xs ys)) m l)
 
 -- ---- the call's contract
 
@@ -291,7 +304,11 @@ module _ (xs ys ox oy : List Float) (r : Result ℕ Refusal) where
   pub cleaned_refused : (w : ℕ) → answer r ≡ refused w → dedup_ring xs ys (length ox) (length oy) ≡ refused w → CleanedAs xs ys ox oy r ox oy
   cleaned_refused w e d = record { answer = rw d e; writes_x = rw d; writes_y = rw d }
 
-  -- else the coordinates at the places ks
-  pub cleaned_given : (ks : List ℕ) (ox' oy' : List Float) → answer r ≡ given (length ks) → dedup_ring xs ys (length ox) (length oy) ≡ given ks
-      → ox' ≡ put ox 0 (gathered xs ks) → oy' ≡ put oy 0 (gathered ys ks) → CleanedAs xs ys ox oy r ox' oy'
-  cleaned_given ks ox' oy' e d x y = record { answer = rw d e; writes_x = rw d x; writes_y = rw d y }
+  -- else it is cleaned into the lists, where there is room
+  pub cleaned_in : (o : Option ℕ) (ox' oy' : List Float) → r ≡ ok_or o refusal.OutputTooShort → length ox ≡ length oy → given tt ≡ ring_fault xs ys → CleanedIn xs ys ox oy o ox' oy' → CleanedAs xs ys ox oy r ox' oy'
+  cleaned_in None ox' oy' e same fine h =
+      let d = dedup_short xs ys (length ox) (length oy) same fine h.0 in
+      record { answer = rw d (ap answer e); writes_x = rw d h.1; writes_y = rw d h.2 }
+  cleaned_in (Some n) ox' oy' e same fine h =
+      let d = dedup_fits xs ys (length ox) (length oy) same fine (omega (arith, h.0, h.1)) in
+      record { answer = rw d (ap answer e ∙ ap given h.1); writes_x = rw d h.2; writes_y = rw d h.3 }

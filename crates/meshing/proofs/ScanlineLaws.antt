@@ -15,18 +15,17 @@ use Rattle.lists.specs.Answer.{Answer, refused, given, and_then, map_answer}
 use Rattle.lists.specs.Counts.{tally, SameEntries}
 use Rattle.lists.specs.Lists.{Below, put, runs, elems, all_of, joined}
 use Rattle.lists.proofs.Answers.{refused_given, passed, given_same}
-use Rattle.lists.proofs.Fills.{put_more, elems_length}
+use Rattle.lists.proofs.Fills.{elems_length}
 use Rattle.lists.proofs.Joined.{joined_most}
 use Rattle.lists.proofs.Scans.{both}
 use Rattle.lists.proofs.Sorts.{sort_length}
 use Rattle.binary64.specs.Numbers.{at}
 use Rattle.openrdson_core.specs.Points.{ring_fault}
-use Rattle.openrdson_core.specs.Mesh.{Mesh, the_mesh, the_counts, unused, kind_number, parallel_lengths, fits}
+use Rattle.openrdson_core.specs.Mesh.{Mesh, the_mesh, the_counts, unused, kind_number, fits}
 use Rattle.openrdson_core.specs.declared.mesh.Counts.{Counts}
 use Rattle.openrdson_core.specs.declared.mesh.ElementType.TheVariants.{Prism}
 use Rattle.openrdson_core.specs.declared.ring.SoundRing.{SoundRing}
 use Rattle.openrdson_core.proofs.Rings.{fine_ring}
-use Rattle.openrdson_core.proofs.MeshLaws.{equal_lengths, room_for}
 use Rattle.meshing.specs.declared.quads.Quad.{Quad}
 use Rattle.meshing.specs.declared.quads.Tally.{Tally}
 use Rattle.meshing.specs.Added.{Part, Adds, fit_part}
@@ -39,6 +38,7 @@ use Rattle.meshing.proofs.BoxWrites.{same_adds}
 use Rattle.meshing.proofs.CrossingLaws.{spanning_most, spanning_below, spanning_none, crossings_entries}
 use Rattle.meshing.proofs.Even.{bands_even}
 use Rattle.meshing.proofs.TriangulateLaws.{sound_fault}
+use Rattle.meshing.proofs.Placed.{put_two}
 use Rattle.meshing.proofs.QuadLaws.{pairs_most, Counted, count_start, count_more, count_end, Sofar, sofar_start, sofar_room, sofar_more, sofar_end, eight_xs}
 
 -- nothing is against a sound ring
@@ -245,10 +245,7 @@ pub two_prisms : (l : List ℕ) (at a : ℕ) {l' l'' : List ℕ} → at + 16 ≤
     → l' ≡ put l at (a ∷ (a + 1) ∷ (a + 2) ∷ (a + 4) ∷ (a + 5) ∷ (a + 6) ∷ unused ∷ unused ∷ [])
     → l'' ≡ put l' (at + 8) (a ∷ (a + 2) ∷ (a + 3) ∷ (a + 4) ∷ (a + 6) ∷ (a + 7) ∷ unused ∷ unused ∷ [])
     → l'' ≡ put l at (quad_places a)
-two_prisms l at a room e f =
-    let second = a ∷ (a + 2) ∷ (a + 3) ∷ (a + 4) ∷ (a + 6) ∷ (a + 7) ∷ unused ∷ unused ∷ [] in
-    f ∙ ap (λ (k : List ℕ). put k (at + 8) second) e
-    ∙ put_more l at (a ∷ (a + 1) ∷ (a + 2) ∷ (a + 4) ∷ (a + 5) ∷ (a + 6) ∷ unused ∷ unused ∷ []) second (at + 8) refl (omega arith)
+two_prisms l at a room e f = put_two l _ _ at (at + 8) e f refl (omega arith)
 
 -- a ring whose quads are counted has them, and its crossings are in range
 pub record Decided (xs ys : List Float) (n : ℕ) : Type 0 where
@@ -300,34 +297,6 @@ pub quads_most : (xs ys : List Float) → length ys ≤ 512 → length (levels y
 unfolding quads_of
 quads_most xs ys short few =
     omega (arith, joined_most (band_quads xs ys) 512 (λ b. omega (arith, band_most xs ys b, short)) (bands_of (levels ys)), bands_most (levels ys), few)
-
--- room in six parallel lists for n quads
-pub record QuadRoom (c : Counts) (n xs ys zs kinds places regions : ℕ) : Type 0 where
-  pub nodes_most : c.nodes + 8 * n ≤ 1048576
-  pub nodes_x : c.nodes + 8 * n ≤ xs
-  pub nodes_y : ys ≡ xs
-  pub nodes_z : c.nodes + n * 8 ≤ zs
-  pub elements_most : c.elements + 2 * n ≤ 1048576
-  pub elements_kinds : c.elements + 2 * n ≤ kinds
-  pub elements_places : 8 * c.elements + n * 16 ≤ places
-  pub elements_regions : c.elements + 2 * n ≤ regions
-
-pub quad_room : (c : Counts) (n xs ys zs kinds places regions : ℕ) → parallel_lengths xs ys zs kinds places regions ≡ true
-    → fits (8 * n) c.nodes xs ≡ true → fits (2 * n) c.elements kinds ≡ true → QuadRoom c n xs ys zs kinds places regions
-quad_room c n xs ys zs kinds places regions e f g =
-    let even = equal_lengths xs ys zs kinds places regions e in
-    let nodes = room_for (8 * n) c.nodes xs f in
-    let elements = room_for (2 * n) c.elements kinds g in
-    record {
-      nodes_most = nodes.0;
-      nodes_x = nodes.1;
-      nodes_y = sym even.same_ys;
-      nodes_z = omega (arith, nodes.1, even.same_zs);
-      elements_most = elements.0;
-      elements_kinds = elements.1;
-      elements_places = omega (arith, elements.1, even.eight_places);
-      elements_regions = omega (arith, elements.1, even.same_regions);
-    }
 
 -- the quads of the bands between the levels
 pub drawn : (xs ys : List Float) {l : List Float} → l ≡ levels ys → joined (band_quads xs ys) (bands_of l) ≡ quads_of xs ys

@@ -1,8 +1,8 @@
--- Triangulating: the cleaned ring is a ring, each refusal, and demand 3 of what is written. Assumes nothing.
+-- Triangulating: the cleaned ring is a ring, each refusal, and what is written is a triangulation. Assumes nothing.
 use mathlib.Core.Path.{◌≡◌, refl, sym, ap, subst, ◌∙◌}
 use mathlib.Core.Bool.{Bool, true, false, not}
 use mathlib.Core.List.{List, [], ◌∷◌}
-use Prim.Native.Nat.{ℕ, zero, suc, ◌*◌, ◌≤◌, ◌<◌}
+use Prim.Native.Nat.{ℕ, ◌*◌, ◌≤◌, ◌<◌}
 use native.Mathlib.Omega.{arith}
 use lib.Dec.{eqb, leb}
 use lib.ListN.{length, get_or, take}
@@ -15,41 +15,33 @@ use Rattle.lists.proofs.Answers.{refused_given, passed, passed_then, given_same}
 use Rattle.lists.proofs.Fills.{put_start, elems_length}
 use Rattle.lists.proofs.Scans.{all_at, all_from}
 use Rattle.lists.proofs.Places.{gather_length, gather_all, below_at}
+use Rattle.lists.proofs.Stores.{map_at}
 use Rattle.binary64.specs.Constants.{zero64}
 use Rattle.openrdson_core.specs.Answers.{answer}
 use Rattle.openrdson_core.specs.Area.{signed_area}
 use Rattle.openrdson_core.specs.declared.refusals.Refusal.{Refusal}
-use Rattle.openrdson_core.specs.Points.{point_at, point_in, points_in, ring_size, ring_fault, of_ring}
+use Rattle.openrdson_core.specs.Points.{point_at, point_in, points_in, ring_fault, of_ring}
 use Rattle.meshing.specs.Ring.{kept, gathered}
 use Rattle.meshing.specs.Triangles.{Triangle, tri, corners, triples, walk, Triangulation}
 use Rattle.meshing.specs.Clipping.{clip}
 use Rattle.meshing.specs.Ears.{is_ear, is_forward, triangles_of}
-use Rattle.meshing.specs.Triangulate.{Cutting, fitted, cutting, triangulate_polygon, numbers, Leaves, Demand3}
+use Rattle.meshing.specs.Triangulate.{Cutting, fitted, cutting, triangulate_polygon, numbers, Leaves, TriangulationLeft}
 use Rattle.meshing.specs.declared.triangulate.Corners.{Corners}
-use Rattle.meshing.specs.declared.triangulate.Triangulation.{Triangulation as Numbers}
+use Rattle.meshing.specs.declared.triangulate.PolygonCounts.{PolygonCounts}
 use Rattle.meshing.proofs.Written.{triples_corners}
-use Rattle.openrdson_core.proofs.Rings.{fine_ring}
+use Rattle.openrdson_core.proofs.Rings.{fine_ring, fine_points}
 use Rattle.meshing.proofs.RingLaws.{kept_below, kept_most}
-use Rattle.meshing.proofs.Demand.{triangles_triangulation}
+use Rattle.meshing.proofs.Triangulations.{triangles_triangulation}
 
 -- ---- the points at places of a ring are a ring
-
-gathered_at : (l : List Float) (ks : List ℕ) (i : ℕ) → i < length ks → get_or (gathered l ks) i nan ≡ get_or l (get_or ks i 0) nan
-gathered_at l [] i h = absurd (omega arith)
-gathered_at l (k ∷ ks) zero h = refl
-gathered_at l (k ∷ ks) (suc i) h = gathered_at l ks i (omega arith)
-
-ring_points : (xs ys : List Float) → ring_fault xs ys ≡ given tt → points_in xs ys ≡ true
-unfolding ring_fault
-ring_points xs ys e = (passed (points_in xs ys) 1 (given tt) (passed_then (ring_size (length xs) (length ys)) (λ _. unless (points_in xs ys) 1 (given tt)) e).2).0
 
 module _ (xs ys : List Float) (ks : List ℕ) (e : ring_fault xs ys ≡ given tt) (b : Below (length xs) ks) where
   gathered_points : points_in (gathered xs ks) (gathered ys ks) ≡ true
   gathered_points =
       all_from (λ i. point_in (point_at (gathered xs ks) (gathered ys ks) i)) (length (gathered xs ks)) (λ i h.
       let l : i < length ks = omega (arith, h, gather_length nan xs ks) in
-      rw (gathered_at xs ks i l, gathered_at ys ks i l)
-      (all_at (λ j. point_in (point_at xs ys j)) (length xs) (ring_points xs ys e) (get_or ks i 0) (below_at (length xs) ks i b l)))
+      rw (map_at (λ k. get_or xs k nan) ks i 0 nan l, map_at (λ k. get_or ys k nan) ks i 0 nan l)
+      (all_at (λ j. point_in (point_at xs ys j)) (length xs) (fine_points xs ys e) (get_or ks i 0) (below_at (length xs) ks i b l)))
 
   pub gathered_ring : length ks ≤ 512 → ring_fault (gathered xs ks) (gathered ys ks) ≡ given tt
   unfolding ring_fault
@@ -66,7 +58,7 @@ unfolding ring_fault
 sound_fault xs ys e s p = rw (eq-eqb (length xs) (length ys) e, le-leb (length xs) 512 s, p)
 
 pub kept_sound : (xs ys : List Float) {rx ry : List Float} → rx ≡ gathered xs (kept xs ys) → ry ≡ gathered ys (kept xs ys) → length xs ≡ length ys → length xs ≤ 512 → points_in xs ys ≡ true → points_in rx ry ≡ true
-kept_sound xs ys e f even short p = ring_points _ _ (kept_ring xs ys e f (sound_fault xs ys even short p))
+kept_sound xs ys e f even short p = fine_points _ _ (kept_ring xs ys e f (sound_fault xs ys even short p))
 
 -- ---- refusals
 
@@ -117,7 +109,7 @@ module _ (m c : ℕ) (ks : List ℕ) (ts : List Triangle) where
 
 -- ---- what a refusal leaves, and an answer
 
-pub refused_leaves : {xs ys ox oy : List Float} {cs : List ℕ} {r : Result Numbers Refusal} (a : Answer Cutting) {n : ℕ} → a ≡ refused n → answer r ≡ refused n → Leaves a xs ys ox oy cs r ox oy cs
+pub refused_leaves : {xs ys ox oy : List Float} {cs : List ℕ} {r : Result PolygonCounts Refusal} (a : Answer Cutting) {n : ℕ} → a ≡ refused n → answer r ≡ refused n → Leaves a xs ys ox oy cs r ox oy cs
 refused_leaves a e f = rw e (record { answer = f; writes_x = refl; writes_y = refl; writes_corners = refl })
 
 pub given_leaves : {xs ys ox oy : List Float} {cs : List ℕ} {ox' oy' : List Float} {cs' : List ℕ} (a : Answer Cutting) (ks : List ℕ) (ts : List Triangle) {v t : ℕ}
@@ -136,7 +128,7 @@ fit_same F G m c is ks ts n e = rw n (at (leb (length ks) m) (leb (length (corne
     at true false = refl
     at false q = refl
 
-pub leaves_gathered : (xs ys : List Float) {rx ry ox oy : List Float} {cs : List ℕ} {r : Result Numbers Refusal} {ox' oy' : List Float} {cs' : List ℕ} (m c : ℕ) (ks : List ℕ) (ts : List Triangle)
+pub leaves_gathered : (xs ys : List Float) {rx ry ox oy : List Float} {cs : List ℕ} {r : Result PolygonCounts Refusal} {ox' oy' : List Float} {cs' : List ℕ} (m c : ℕ) (ks : List ℕ) (ts : List Triangle)
     → rx ≡ gathered xs ks → ry ≡ gathered ys ks → Leaves (fitted m c (elems (length rx) (λ i. i)) ts) rx ry ox oy cs r ox' oy' cs' → Leaves (fitted m c ks ts) xs ys ox oy cs r ox' oy' cs'
 leaves_gathered xs ys {rx} {ry} {ox} {oy} {cs} m c ks ts e f l =
     let is : List ℕ = elems (length rx) (λ i. i) in
@@ -151,7 +143,7 @@ leaves_gathered xs ys {rx} {ry} {ox} {oy} {cs} m c ks ts e f l =
       writes_corners = l.writes_corners ∙ ap (λ (a : Answer (List ℕ)). left a cs) (fit_same (λ (k : Cutting). put cs 0 (corners k.triangles)) (λ (k : Cutting). put cs 0 (corners k.triangles)) m c is ks ts n refl);
     }
 
--- ---- demand 3
+-- ---- what is written is a triangulation
 
 pub corners_length : (ts : List Triangle) → length (corners ts) ≡ length ts * 3
 corners_length [] = refl
@@ -175,10 +167,10 @@ module _ (xs ys : List Float) where
       cutting_is m k (kept xs ys) c p.2
 
   module _ (c : Cutting) (e : triangles_of (gathered xs c.ring) (gathered ys c.ring) ≡ given c.triangles) where
-    demand : (ox oy : List Float) (cs : List ℕ) {ox' oy' : List Float} {cs' : List ℕ} (v t : ℕ) → v ≡ length c.ring → t ≡ length c.triangles
+    triangulation_left : (ox oy : List Float) (cs : List ℕ) {ox' oy' : List Float} {cs' : List ℕ} (v t : ℕ) → v ≡ length c.ring → t ≡ length c.triangles
         → ox' ≡ put ox 0 (gathered xs c.ring) → oy' ≡ put oy 0 (gathered ys c.ring) → cs' ≡ put cs 0 (corners c.triangles)
         → Triangulation (is_forward (take v ox') (take v oy')) v (triples (take (t * 3) cs'))
-    demand ox oy cs v t f g x y z =
+    triangulation_left ox oy cs v t f g x y z =
         let gx : take v _ ≡ gathered xs c.ring = put_start ox (gathered xs c.ring) x (f ∙ sym (gather_length nan xs c.ring)) in
         let gy : take v _ ≡ gathered ys c.ring = put_start oy (gathered ys c.ring) y (f ∙ sym (gather_length nan ys c.ring)) in
         let many : t * 3 ≡ length (corners c.triangles) = omega (arith, g, corners_length c.triangles) in
@@ -187,16 +179,16 @@ module _ (xs ys : List Float) where
         rw (gx, gy, gc, h) (triangles_triangulation (gathered xs c.ring) (gathered ys c.ring) c.triangles e)
 
 -- what the call leaves is a triangulation
-pub leaves_demand : (xs ys ox oy : List Float) (cs : List ℕ) (r : Result Numbers Refusal) {ox' oy' : List Float} {cs' : List ℕ} (a : Answer Cutting)
-    → triangulate_polygon xs ys (length ox) (length oy) (length cs) ≡ a → Leaves a xs ys ox oy cs r ox' oy' cs' → Demand3 r ox' oy' cs'
-leaves_demand xs ys ox oy cs (Err why) a e l = tt
-leaves_demand xs ys ox oy cs (Ok n) (refused k) e l = refused_given (sym l.answer)
-leaves_demand xs ys ox oy cs (Ok n) (given c) e l =
+pub leaves_triangulation : (xs ys ox oy : List Float) (cs : List ℕ) (r : Result PolygonCounts Refusal) {ox' oy' : List Float} {cs' : List ℕ} (a : Answer Cutting)
+    → triangulate_polygon xs ys (length ox) (length oy) (length cs) ≡ a → Leaves a xs ys ox oy cs r ox' oy' cs' → TriangulationLeft r ox' oy' cs'
+leaves_triangulation xs ys ox oy cs (Err why) a e l = tt
+leaves_triangulation xs ys ox oy cs (Ok n) (refused k) e l = refused_given (sym l.answer)
+leaves_triangulation xs ys ox oy cs (Ok n) (given c) e l =
     let same = given_same l.answer in
-    demand xs ys c (polygon_is xs ys (length ox) (length oy) (length cs) c e) ox oy cs n.vertices n.triangles (ap (λ (p : Numbers). p.vertices) same) (ap (λ (p : Numbers). p.triangles) same) l.writes_x l.writes_y l.writes_corners
+    triangulation_left xs ys c (polygon_is xs ys (length ox) (length oy) (length cs) c e) ox oy cs n.vertices n.triangles (ap (λ (p : PolygonCounts). p.vertices) same) (ap (λ (p : PolygonCounts). p.triangles) same) l.writes_x l.writes_y l.writes_corners
 
 -- what is left depends on the answer alone
-pub same_leaves : {xs ys ox oy : List Float} {cs : List ℕ} {r : Result Numbers Refusal} {ox' oy' : List Float} {cs' : List ℕ} {a b : Answer Cutting} → a ≡ b → Leaves a xs ys ox oy cs r ox' oy' cs' → Leaves b xs ys ox oy cs r ox' oy' cs'
+pub same_leaves : {xs ys ox oy : List Float} {cs : List ℕ} {r : Result PolygonCounts Refusal} {ox' oy' : List Float} {cs' : List ℕ} {a b : Answer Cutting} → a ≡ b → Leaves a xs ys ox oy cs r ox' oy' cs' → Leaves b xs ys ox oy cs r ox' oy' cs'
 same_leaves {xs = xs} {ys = ys} {ox = ox} {oy = oy} {cs = cs} {r = r} {ox' = ox'} {oy' = oy'} {cs' = cs'} e = subst (λ (a : Answer Cutting). Leaves a xs ys ox oy cs r ox' oy' cs') e
 
 -- ---- clipping a ring in the direction of its area

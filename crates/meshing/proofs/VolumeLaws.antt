@@ -1,5 +1,5 @@
 -- Laws of the volume of a mesh: one turn of each loop, and the places that an element uses. Assumes nothing.
-use Prim.Native.Nat.{ℕ, zero, suc, ◌*◌, ◌<◌}
+use Prim.Native.Nat.{ℕ, zero, suc, ◌+◌, ◌*◌, ◌<◌}
 use native.Mathlib.Omega.{arith}
 use mathlib.Core.Path.{◌≡◌, refl, sym, ap, ◌∙◌}
 use mathlib.Core.Bool.{Bool, true, false, ◌&&◌, cond}
@@ -11,6 +11,7 @@ use Rattle.std.specs.Prelude.{Some, None}
 use lib.Ieee.{Float, binary64, inf, fits, eq, le}
 use borrow.Author.Tests.{eqb-true}
 use Rattle.lists.specs.Lists.{fold_below, part}
+use Rattle.lists.proofs.Folds.{fold_start, fold_more, fold_end}
 use Rattle.lists.proofs.Scans.{both}
 use Rattle.binary64.specs.Constants.{zero64}
 use Rattle.binary64.specs.Numbers.{◌⊕◌, ◌⊖◌, ◌⊗◌, at, abs}
@@ -20,6 +21,7 @@ use Rattle.openrdson_core.specs.Mesh.{kind_number, node_count, kind_of}
 use Rattle.openrdson_core.specs.declared.mesh.ElementType.{ElementType}
 use Rattle.openrdson_core.specs.declared.mesh.ElementType.TheVariants.{Tet, Hex, Prism, Pyramid}
 use Rattle.openrdson_core.specs.declared.mesh.Point3.{Point3}
+use Rattle.meshing.specs.declared.volume.Reach.{Reach}
 use Rattle.meshing.specs.Volumes.{is_plain, norm, prism_volume, reach, box_volume, element_volume}
 
 -- the number that place k of an element names, against a bound
@@ -29,10 +31,26 @@ low l places bound k = lesser (at l (get_or places k 0)) bound
 abbrev pub high : List Float → List ℕ → Float → ℕ → Float
 high l places bound k = greater (at l (get_or places k 0)) bound
 
-pub reach_is : (l : List Float) (n : ℕ) (places : List ℕ) {least most : Float} → least ≡ fold_below n (low l places) (inf false) → most ≡ fold_below n (high l places) (inf true)
-    → most ⊖ least ≡ reach l n places
-unfolding reach
-reach_is l n places p q = rw (p, q)
+-- what a loop over an element's places keeps of an axis: how far the numbers at the first k places reach
+pub record Reaches (l : List Float) (places : List ℕ) (k : ℕ) (r : Reach) : Type 0 where
+  pub lows : r.least ≡ fold_below k (low l places) (inf false)
+  pub highs : r.most ≡ fold_below k (high l places) (inf true)
+
+module _ (l : List Float) (places : List ℕ) where
+  pub reach_start : {r : Reach} → (r.least ≡ inf false) × (r.most ≡ inf true) → Reaches l places 0 r
+  reach_start e = record { lows = e.0 ∙ fold_start (low l places) (inf false); highs = e.1 ∙ fold_start (high l places) (inf true) }
+
+  pub reach_more : (k : ℕ) {r with_v : Reach} {v : Float} → Reaches l places k r → v ≡ at l (get_or places k 0) → (with_v.least ≡ lesser v r.least) × (with_v.most ≡ greater v r.most)
+      → Reaches l places (k + 1) with_v
+  reach_more k {r} h is e =
+      record {
+        lows = fold_more (low l places) (inf false) k h.lows (e.0 ∙ ap (λ (u : Float). lesser u r.least) is);
+        highs = fold_more (high l places) (inf true) k h.highs (e.1 ∙ ap (λ (u : Float). greater u r.most) is);
+      }
+
+  pub reach_end : {k n : ℕ} {r : Reach} {v : Float} → Reaches l places k r → k ≡ n → v ≡ r.most ⊖ r.least → v ≡ reach l n places
+  unfolding reach
+  reach_end h e is = is ∙ rw (fold_end (low l places) (inf false) h.lows e, fold_end (high l places) (inf true) h.highs e)
 
 -- the size of a vector along z, as a program tests it
 pub norm_along : (c : Point3) {r : Float} → T (fits binary64 c.z) → (eq c.x zero64 && eq c.y zero64 && is_plain c.z) ≡ true → r ≡ abs c.z → r ≡ norm c
@@ -66,13 +84,12 @@ module _ (xs ys zs : List Float) where
   unfolding element_volume
   element_prism t used e p = p ∙ rw e
 
-  pub element_box : (t : ElementType) (used : List ℕ) {x y z : Float} → (t ≡ Prism → ⊥) → length used ≡ node_count t → x ≡ reach xs (length used) used → y ≡ reach ys (length used) used → z ≡ reach zs (length used) used
-      → x ⊗ y ⊗ z ≡ element_volume xs ys zs (kind_number t) used
+  pub element_box : (t : ElementType) (used : List ℕ) {v : Float} → (t ≡ Prism → ⊥) → length used ≡ node_count t → v ≡ box_volume xs ys zs (length used) used → v ≡ element_volume xs ys zs (kind_number t) used
   unfolding element_volume box_volume kind_of
-  element_box Tet used e n p q r = rw (p, q, r, n)
-  element_box Hex used e n p q r = rw (p, q, r, n)
-  element_box Prism used e n p q r = absurd (e refl)
-  element_box Pyramid used e n p q r = rw (p, q, r, n)
+  element_box Tet used e n p = rw (p, n)
+  element_box Hex used e n p = rw (p, n)
+  element_box Prism used e n p = absurd (e refl)
+  element_box Pyramid used e n p = rw (p, n)
 
 -- folds whose steps agree
 fold_same : (f g : Float → ℕ → Float) (start : Float) (n : ℕ) → ((a : Float) (i : ℕ) → i < n → f a i ≡ g a i) → fold_below n f start ≡ fold_below n g start

@@ -347,10 +347,6 @@ module _ (tolerance : Float) (xs ys zs : List Float) {kx ky kz : List Float} (h 
 
 -- ---- the call
 
-pub same_mesh : {xs xs' ys ys' zs zs' : List Float} {kinds kinds' places places' regions regions' : List ℕ} → xs ≡ xs' → ys ≡ ys' → zs ≡ zs' → kinds ≡ kinds' → places ≡ places' → regions ≡ regions'
-    → the_mesh xs ys zs kinds places regions ≡ the_mesh xs' ys' zs' kinds' places' regions'
-same_mesh ex ey ez ek ep er = rw (ex, ey, ez, ek, ep, er)
-
 -- a refusal leaves the lent lists as they were
 pub weld_refused : (lent : Mesh) (why : Refusal) (a : Answer Mesh) → a ≡ refused (refusal_number why) → spec.WeldedAs a lent (Err why) lent
 weld_refused lent why a e = rw e record { answer = refl; lists = refl }

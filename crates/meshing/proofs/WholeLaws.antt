@@ -1,7 +1,7 @@
 -- Laws of the checks that a mesh passes before it is welded or measured. Assumes nothing.
 use Prim.Native.Nat.{ℕ, ◌*◌, ◌≤◌, ◌<◌}
-use mathlib.Core.Path.{◌≡◌, refl, sym, ap, ◌∙◌}
-use mathlib.Core.Bool.{Bool, true, false, ◌&&◌}
+use mathlib.Core.Path.{◌≡◌, sym, ap, ◌∙◌}
+use mathlib.Core.Bool.{Bool, true, false, ◌&&◌, and-true}
 use mathlib.Core.List.{List}
 use mathlib.Core.Logic.{◌⊎◌, inl, inr, ⊎_elim}
 use Rattle.std.specs.Prelude.{Some}
@@ -104,11 +104,7 @@ module _ (m : Mesh) where
   fault_by_number {ok} e f = fault_goes_on ok e ∙ rw (f, and_false (nodes_in m.xs m.ys m.zs))
 
   pub fault_by_contents : {ok : Bool} → given tt ≡ mesh_size m → ok ≡ true → mesh_fault ok m ≡ contents_fault m
-  fault_by_contents {ok} e f = fault_goes_on ok e ∙ ap (λ (b : Bool). unless b 1 (elements_fault (length m.xs) m.kinds m.places)) (ap (λ (b : Bool). nodes_in m.xs m.ys m.zs && b) f ∙ with_true (nodes_in m.xs m.ys m.zs))
-    where
-      with_true : (b : Bool) → (b && true) ≡ b
-      with_true true = refl
-      with_true false = refl
+  fault_by_contents {ok} e f = fault_goes_on ok e ∙ ap (λ (b : Bool). unless b 1 (elements_fault (length m.xs) m.kinds m.places)) (ap (λ (b : Bool). nodes_in m.xs m.ys m.zs && b) f ∙ and-true (nodes_in m.xs m.ys m.zs))
 
 -- ---- the places that an element uses, as a list of their own
 

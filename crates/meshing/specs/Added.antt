@@ -16,10 +16,11 @@ pub record Part : Type 0 where
   pub kinds : List ℕ
   pub places : List ℕ
 
--- the new counts, and the new lists; every element added carries the region number
+-- the new counts
 abbrev pub grown : Counts → Part → Counts
 grown c p = the_counts (c.nodes + length p.xs) (c.elements + length p.kinds)
 
+-- the new lists; every element added carries the region number
 abbrev pub added : Counts → ℕ → Part → Mesh → Mesh
 added c region p m =
     the_mesh (put m.xs c.nodes p.xs) (put m.ys c.nodes p.ys) (put m.zs c.nodes p.zs)
@@ -48,7 +49,7 @@ pub record Adds (a : Answer Part) (c : Counts) (region : ℕ) (m m' : Mesh) (r :
 abbrev pub Appends : Answer Part → Counts → ℕ → Mesh → Mesh → Result Counts Refusal → Type 0
 Appends a c region m m' r = Adds (and_then a (fit_part c m)) c region m m' r
 
--- ---- what an accepted region call appends, where the mesh has `base` nodes already (proofs/WellFormed)
+-- ---- what an accepted region call appends, where the mesh has `base` nodes already (the crate theorems proves it in proofs/WellFormed)
 
 -- element e is a hex or a prism; each place that it uses is a node appended with it, the others are unused
 unfoldable pub element_appended : ℕ → Part → ℕ → Bool

@@ -23,6 +23,7 @@ pub record Axis : Type 0 where
   pub high : Float
   pub cells : ℕ
 
+-- the axis from low to high in cells of a size
 abbrev pub axis_of : Float → Float → Float → Axis
 axis_of low high cell = record { low = low; high = high; cells = cells_for (high ⊖ low) cell }
 
@@ -40,7 +41,7 @@ box_part base x y z =
       places = hex_places base x.cells y.cells z.cells;
     }
 
--- each test of the three axes
+-- the two tests of an axis
 abbrev pub is_wide : Axis → Bool
 is_wide a = lt zero64 (a.high ⊖ a.low)
 
@@ -49,12 +50,14 @@ is_few a = leb a.cells 4096
 
 -- ---- 16; 15 for counts or material; 1 for bounds; 5; 1 for cell sizes; 6; 7; 12
 
+-- what a box of these axes adds: 12
 unfoldable pub box_fits : Counts → Mesh → Axis → Axis → Axis → Answer Part
 box_fits c m x y z =
     unless (fits (grid_nodes x.cells y.cells z.cells) c.nodes (length m.xs)) 12
     (unless (fits (grid_cells x.cells y.cells z.cells) c.elements (length m.kinds)) 12
     (given (box_part c.nodes x y z)))
 
+-- what it adds: 5; 1 for cell sizes; 6; 7; 12
 unfoldable pub box_of : MeshConfig → Counts → Mesh → Axis → Axis → Axis → Answer Part
 box_of config c m x y z =
     unless (is_wide x && is_wide y && is_wide z) 5
@@ -63,6 +66,7 @@ box_of config c m x y z =
     (unless (is_few x && is_few y && is_few z) 7
     (box_fits c m x y z))))
 
+-- what it adds, from its bounds: all of the refusals
 unfoldable pub mesh_box : Bbox → Float → Float → ℕ → MeshConfig → Counts → Mesh → Answer Part
 mesh_box b z0 z1 material config c m =
     unless (parallel m) 16
@@ -71,9 +75,9 @@ mesh_box b z0 z1 material config c m =
     (unless (point_in (the_point b.min_x b.min_y) && point_in (the_point b.max_x b.max_y) && heights_in z0 z1) 1
     (box_of config c m (axis_of b.min_x b.max_x config.lateral_cell) (axis_of b.min_y b.max_y config.lateral_cell) (axis_of z0 z1 config.z_cell)))))
 
--- ---- the same from numbers and the lists' lengths: how many cells a box has along x, y and z, or the refusal (proofs/BoxLaws ties it to `mesh_box`)
+-- ---- the same from numbers and the lists' lengths: how many cells a box has, or its refusal (proofs/BoxLaws shows that `mesh_box` says the same)
 
--- a box's cells
+-- how many cells a box has along x, y and z
 pub record BoxCells : Type 0 where
   pub nx : ℕ
   pub ny : ℕ
@@ -82,6 +86,7 @@ pub record BoxCells : Type 0 where
 abbrev pub the_cells : ℕ → ℕ → ℕ → BoxCells
 the_cells nx ny nz = record { nx = nx; ny = ny; nz = nz }
 
+-- the cells that the code counts
 abbrev pub box_cells : Cells → BoxCells
 box_cells n = the_cells n.nx n.ny n.nz
 

@@ -5,19 +5,23 @@ use Rattle.lists.specs.Answer.{Answer, refused, given, map_answer}
 use Rattle.lists.specs.Lists.{first, next_of, prev_of}
 use Rattle.meshing.specs.Triangles.{Triangle, tri}
 
--- the vertex at place i of what remains, the one before it and the one after: the first and the last are neighbours
+-- the vertex at place i of what remains; the first and the last are neighbours
 abbrev pub here : List ℕ → ℕ → ℕ
 here w i = get_or w i 0
 
+-- the vertex before it
 abbrev pub before : List ℕ → ℕ → ℕ
 before w i = here w (prev_of (length w) i)
 
+-- the vertex after it
 abbrev pub after : List ℕ → ℕ → ℕ
 after w i = here w (next_of (length w) i)
 
+-- the three of them as a triangle
 abbrev pub triangle_at : List ℕ → ℕ → Triangle
 triangle_at w i = tri (before w i) (here w i) (after w i)
 
+-- what remains without the vertex at place i
 abbrev pub without : List ℕ → ℕ → List ℕ
 without w i = take i w ++ drop (i + 1) w
 

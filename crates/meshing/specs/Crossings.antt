@@ -13,7 +13,7 @@ use Rattle.openrdson_core.specs.declared.points.Point.{Point}
 unfoldable pub spans : List Float → Float → ℕ → Bool
 spans ys y e = xor (le (at ys e) y) (le (at ys (next_of (length ys) e)) y)
 
--- in their order
+-- the edges that do so, in their order
 abbrev pub spanning : List Float → Float → List ℕ
 spanning ys y = passing (spans ys y) (elems (length ys) (λ e. e))
 
@@ -34,11 +34,11 @@ module _ (xs ys : List Float) where
   unfoldable pub crossings : Float → List ℕ
   crossings y = sort_by (left_of y) (spanning ys y)
 
-  -- they cross it where document 01 admits a number
+  -- edge e crosses the height in range
   abbrev pub crosses_in : Float → ℕ → Bool
   crosses_in y e = at_most 20 (edge_at y e)
 
--- ---- what the code does from band to band
+-- ---- how the code finds the crossings of a band from those of the band before
 
 -- edges that span the height y and not the height `below`
 abbrev pub new_at : List Float → Float → Float → ℕ → Bool

@@ -19,9 +19,11 @@ turn a b c = (b.x ⊖ a.x) ⊗ (c.y ⊖ a.y) ⊖ (b.y ⊖ a.y) ⊗ (c.x ⊖ a.x)
 abbrev pub side : Point → Point → Point → Float
 side p a b = (p.x ⊖ b.x) ⊗ (a.y ⊖ b.y) ⊖ (a.x ⊖ b.x) ⊗ (p.y ⊖ b.y)
 
+-- one of three numbers is below zero
 abbrev pub has_neg : Float → Float → Float → Bool
 has_neg d e f = lt d zero64 || lt e zero64 || lt f zero64
 
+-- one of three numbers is above zero
 abbrev pub has_pos : Float → Float → Float → Bool
 has_pos d e f = lt zero64 d || lt zero64 e || lt zero64 f
 
@@ -46,6 +48,7 @@ module _ (xs ys : List Float) where
   unfoldable pub is_ear_of : List ℕ → ℕ → ℕ → ℕ → Bool
   is_ear_of w a b c = lt zero64 (turn (point_at xs ys a) (point_at xs ys b) (point_at xs ys c)) && is_clear w a b c
 
+  -- the same of place i of a walk
   abbrev pub is_ear : List ℕ → ℕ → Bool
   is_ear w i = is_ear_of w (before w i) (here w i) (after w i)
 
@@ -53,7 +56,7 @@ module _ (xs ys : List Float) where
   abbrev pub first_ear : List ℕ → Option ℕ
   first_ear w = first (is_ear w) (length w) 0
 
-  -- the walk is reversed if the computed area is below zero
+  -- the walk goes forward unless the computed area is below zero
   abbrev pub is_forward : Bool
   is_forward = not (lt (signed_area xs ys) zero64)
 

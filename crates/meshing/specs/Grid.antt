@@ -5,17 +5,19 @@ use Rattle.openrdson_core.specs.Mesh.{Mesh, the_mesh}
 
 -- ---- nodes
 
--- a number for each node of a plane, and of the grid, from its places on the axes
+-- a number for each node of a plane, from its places on the two axes
 unfoldable pub plane : ℕ → ℕ → (ℕ → ℕ → Float) → List Float
 plane nx ny f = runs (ny + 1) (λ j. elems (nx + 1) (λ i. f i j))
 
+-- a number for each node of the grid, from its places on the three axes
 unfoldable pub grid : ℕ → ℕ → ℕ → (ℕ → ℕ → ℕ → Float) → List Float
 grid nx ny nz f = runs (nz + 1) (λ k. plane nx ny (λ i j. f i j k))
 
--- how many nodes and how many cells
+-- how many nodes there are
 abbrev pub grid_nodes : ℕ → ℕ → ℕ → ℕ
 grid_nodes nx ny nz = (nx + 1) * (ny + 1) * (nz + 1)
 
+-- how many cells there are
 abbrev pub grid_cells : ℕ → ℕ → ℕ → ℕ
 grid_cells nx ny nz = nx * ny * nz
 
@@ -46,5 +48,6 @@ hex_at base nx ny i j k =
     ∷ node_at base nx ny i (j + 1) (k + 1)
     ∷ []
 
+-- the node places of all hexes
 unfoldable pub hex_places : ℕ → ℕ → ℕ → ℕ → List ℕ
 hex_places base nx ny nz = runs nz (λ k. runs ny (λ j. runs nx (λ i. hex_at base nx ny i j k)))

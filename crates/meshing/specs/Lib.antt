@@ -1,4 +1,4 @@
--- The definitions of meshing.
+-- The definitions of meshing. The numbers in a definition's comment are refusals (openrdson_core's specs/Refusals), in the order in which they are tried.
 pub mod Ring
 pub mod Triangles
 pub mod Clipping

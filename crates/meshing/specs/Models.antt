@@ -30,6 +30,7 @@ overrides_of o = the_overrides o.materials.now o.laterals.now o.verticals.now
 abbrev pub no_overrides : Overrides
 no_overrides = the_overrides [] [] []
 
+-- the three lists are equally long (16)
 abbrev pub even_overrides : Overrides → Bool
 even_overrides o = eqb (length o.laterals) (length o.materials) && eqb (length o.verticals) (length o.materials)
 
@@ -47,7 +48,7 @@ config_for o default material = fold_below (length o.materials) (chosen o materi
 
 -- ---- a model
 
--- the mesh so far, and the diagnostics of the regions tried
+-- the mesh so far, and a diagnostic of each region so far: 0, or its refusal
 pub record Run : Type 0 where
   pub counts : Counts
   pub mesh : Mesh
@@ -60,7 +61,7 @@ module _ (r : Regions) (px py : List Float) (o : Overrides) (default : MeshConfi
       and_then (region_at r (length px) i) (λ g.
       mesh_region g.solid g.material_id.0 (config_for o default g.material_id.0) c px py m)
 
-  -- region i is tried: its elements carry its place
+  -- the run after region i, whose elements carry its place
   unfoldable pub tried : Run → ℕ → Run
   tried s i =
       let a = row_part i s.counts s.mesh in
@@ -70,7 +71,7 @@ module _ (r : Regions) (px py : List Float) (o : Overrides) (default : MeshConfi
         diagnostics = s.diagnostics ++ status a ∷ [];
       }
 
-  -- the first n regions
+  -- the run after the first n regions
   abbrev pub run_to : Counts → Mesh → ℕ → Run
   run_to c m n = fold_below n tried (record { counts = c; mesh = m; diagnostics = [] })
 
@@ -99,14 +100,14 @@ pub record ModelAs (a : Answer Run) (m : Mesh) (ds : List ℕ) (result : Result 
   pub mesh : m' ≡ left (map_answer (λ (s : Run). s.mesh) a) m
   pub diagnostics : ds' ≡ left (map_answer (λ (s : Run). put ds 0 s.diagnostics) a) ds
 
--- ---- the same of the loop over the regions
+-- ---- what the loop over the regions leaves
 
 pub record RunAs (s : Run) (c : Counts) (m : Mesh) (ds ds' : List ℕ) : Type 0 where
   pub counts : c ≡ s.counts
   pub mesh : m ≡ s.mesh
   pub diagnostics : ds' ≡ put ds 0 s.diagnostics
 
--- ---- the refusals, by what is known of the lists (proofs/ModelLaws ties them to `mesh_model`)
+-- ---- the refusals, by what is known of the lists (proofs/ModelLaws shows that `mesh_model` has the same)
 
 unfoldable pub model_judged : Bool → Bool → Bool → Bool → ℕ → ℕ → ℕ → Bool → Bool → ℕ → Answer (Unit {0})
 model_judged are_regions_even are_points_even are_overrides_even is_mesh_parallel regions points overrides are_counts_in are_overrides_named diagnostics =

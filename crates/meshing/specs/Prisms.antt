@@ -41,7 +41,7 @@ module _ (base : ℕ) (z0 z1 : Float) where
   triangles_or xs ys (given ts) scanline = given (triangles_part base z0 z1 xs ys ts)
   triangles_or xs ys (refused n) scanline = scanline
 
-  -- a ring of the part, cleaned once: to the scanline if it is rectilinear; clipping cleans it again
+  -- what a ring that is cleaned once adds: by the scanline if it is rectilinear, else cleaned again and clipped
   unfoldable pub ring_part : List Float → List Float → Answer Part
   ring_part xs ys =
       let scanline = map_answer (quads_part base z0 z1) (scanline_of xs ys) in
@@ -49,16 +49,19 @@ module _ (base : ℕ) (z0 z1 : Float) where
       let clipped = triangles_or (gathered xs again) (gathered ys again) (triangles_of (gathered xs again) (gathered ys again)) scanline in
       cond (is_rectilinear xs ys) scanline clipped
 
+  -- what a ring adds
   unfoldable pub prism_part : List Float → List Float → Answer Part
   prism_part xs ys = ring_part (gathered xs (kept xs ys)) (gathered ys (kept xs ys))
 
--- the same for a ring from one height to another: by these triangles, cleaned once, and as it is lent
+-- the same for a ring from one height to another: what it adds by these triangles
 abbrev pub cut_part : ℕ → Extrusion → List Triangle → Part
 cut_part base e = triangles_part base e.heights.bottom e.heights.top e.ring.ring.xs.now e.ring.ring.ys.now
 
+-- what it adds where it is cleaned once
 abbrev pub meshed : ℕ → Extrusion → Answer Part
 meshed base e = ring_part base e.heights.bottom e.heights.top e.ring.ring.xs.now e.ring.ring.ys.now
 
+-- what it adds where it is not cleaned
 abbrev pub cleaned : ℕ → Extrusion → Answer Part
 cleaned base e = prism_part base e.heights.bottom e.heights.top e.ring.ring.xs.now e.ring.ring.ys.now
 
@@ -78,7 +81,7 @@ mesh_prism z0 z1 start count material c px py m =
     unless (lt z0 z1) 8
     (and_then (prism_part c.nodes z0 z1 (part start count px) (part start count py)) (fit_part c m)))))))
 
--- ---- of a part of two point lists that are equally long, and two heights: 15, 2, 1, 8 (proofs/PrismLaws ties it to `mesh_prism`)
+-- ---- of a part of two point lists that are equally long, and two heights: 15, 2, 1, 8 (proofs/PrismLaws shows that `mesh_prism` has the same)
 
 unfoldable pub part_fault : List Float → List Float → Float → Float → ℕ → ℕ → Answer (Unit {0})
 part_fault px py z0 z1 start count =

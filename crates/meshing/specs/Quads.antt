@@ -9,7 +9,7 @@ use Rattle.meshing.specs.declared.levels.Band.{Band}
 use Rattle.meshing.specs.Levels.{levels, bands_of, middle}
 use Rattle.meshing.specs.Crossings.{edge_at, crossings}
 
--- a quad, by a name that crates above can say
+-- a quad, by a name that other crates can use
 abbrev pub Trapezoid : Type 0
 Trapezoid = Quad
 
@@ -23,12 +23,12 @@ quad_area q =
 unfoldable pub is_flat : Quad → Bool
 is_flat q = lt (abs (quad_area q)) tiny30
 
--- its four corners are where document 01 admits a number; its two heights are vertices'
+-- the x of its four corners are in range; its two heights are vertices'
 unfoldable pub quad_in : Quad → Bool
 quad_in q = at_most 20 q.ax && at_most 20 q.bx && at_most 20 q.cx && at_most 20 q.dx
 
 module _ (xs ys : List Float) where
-  -- between the edges l and r
+  -- the quad between the edges l and r
   unfoldable pub quad_of : Band → ℕ → ℕ → Quad
   quad_of b l r =
       record {
@@ -48,8 +48,10 @@ module _ (xs ys : List Float) where
       let rest = quads_between b es in
       cond (is_flat (quad_of b l r)) rest (quad_of b l r ∷ rest)
 
+  -- the quads of a band
   unfoldable pub band_quads : Band → List Quad
   band_quads b = quads_between b (crossings xs ys (middle b))
 
+  -- the quads of all bands, from the lowest up
   unfoldable pub quads_of : List Quad
   quads_of = joined band_quads (bands_of (levels ys))

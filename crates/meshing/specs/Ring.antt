@@ -1,5 +1,5 @@
 -- Cleaning a ring: the places of the points that are kept.
-use Rattle.std.specs.Prelude.{ℕ, ◌-◌, ◌≤◌, ◌≡◌, Bool, ◌&&◌, cond, List, [], ◌∷◌, ◌++◌, ltb, leb, eqb, length, get_or, take, Float, Result}
+use Rattle.std.specs.Prelude.{ℕ, ◌-◌, ◌≤◌, ◌<◌, ◌≡◌, Bool, ◌&&◌, cond, List, [], ◌∷◌, ◌++◌, ltb, leb, eqb, length, get_or, take, Float, Option, MatchOption, Result}
 use Rattle.std.specs.Float.{nan}
 use Rattle.std.specs.Float.Ieee.{lt}
 use Rattle.lists.specs.Answer.{Answer, given, unless, and_then, map_answer, left}
@@ -47,6 +47,13 @@ pub record KeptIn (xs ys : List Float) (places : List ℕ) (count : ℕ) : Type 
   pub is : take count places ≡ kept xs ys
   pub below : Below (length xs) (take count places)
   pub within : count ≤ length xs
+
+-- The lists ox and oy after cleaning into them, ox' and oy': the coordinates kept stand over their start, or there is no room and nothing is written.
+abbrev pub CleanedIn : List Float → List Float → List Float → List Float → Option ℕ → List Float → List Float → Type 0
+CleanedIn xs ys ox oy r ox' oy' =
+    MatchOption r
+    ((length ox < length (kept xs ys)) × (ox' ≡ ox) × (oy' ≡ oy))
+    (λ n. (n ≤ length ox) × (n ≡ length (kept xs ys)) × (ox' ≡ put ox 0 (gathered xs (kept xs ys))) × (oy' ≡ put oy 0 (gathered ys (kept xs ys))))
 
 -- What the call answers, and the lists ox and oy after it, ox' and oy': the coordinates kept stand over their start, and a refused call writes nothing.
 pub record CleanedAs (xs ys ox oy : List Float) (r : Result ℕ Refusal) (ox' oy' : List Float) : Type 0 where

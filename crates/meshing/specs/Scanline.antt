@@ -19,13 +19,15 @@ is_even zero = true
 is_even (suc n) = not (is_even n)
 
 module _ (xs ys : List Float) where
-  -- of a band: its middle is crossed an even number of times; each time where document 01 admits a number
+  -- a band's middle is crossed an even number of times
   unfoldable pub even_band : Band → Bool
   even_band b = is_even (length (crossings xs ys (middle b)))
 
+  -- a band's middle is crossed in range each time
   unfoldable pub band_in : Band → Bool
   band_in b = all_of (crosses_in xs ys (middle b)) (crossings xs ys (middle b))
 
+  -- so is each of these
   abbrev pub bands_in : List Band → Bool
   bands_in bs = all_of band_in bs
 
@@ -42,6 +44,7 @@ module _ (xs ys : List Float) where
 
 -- ---- four bottom nodes, then four top nodes a quad, never shared
 
+-- the x, the y and the z of a quad's eight nodes
 abbrev pub quad_xs : Quad → List Float
 quad_xs q = q.ax ∷ q.bx ∷ q.cx ∷ q.dx ∷ q.ax ∷ q.bx ∷ q.cx ∷ q.dx ∷ []
 
@@ -72,7 +75,7 @@ quads_part base z0 z1 qs =
 abbrev pub scanned : ℕ → SoundRing → Heights → Answer Part
 scanned base r h = map_answer (quads_part base h.bottom h.top) (scanline_of r.ring.xs.now r.ring.ys.now)
 
--- ---- what the pass that decides goes by
+-- ---- what the pass that decides keeps
 
 -- a tally with quads added to it
 pub record Tallied (t : Tally) (qs : List Quad) (t' : Tally) : Type 0 where

@@ -1,11 +1,14 @@
--- Triangles over the vertices of a ring, and demand 3 of them. A walk is the list of a ring's vertices in the order in which they are gone round.
+-- Triangles over the vertices of a ring, and when they are a triangulation of it. A walk is the list of a ring's vertices in the order in which they are
+-- gone round.
 use Rattle.std.specs.Prelude.{ℕ, ◌+◌, ◌<◌, ◌≡◌, Bool, true, false, ◌&&◌, List, [], ◌∷◌, reverse, ltb, eqb, length}
 use Rattle.lists.specs.Lists.{elems}
 use Rattle.lists.specs.Counts.{tally, occurs}
 
+-- three vertices, by their places in the ring
 pub data Triangle : Type 0 where
   tri : ℕ → ℕ → ℕ → Triangle
 
+-- from one vertex to another
 pub data Edge : Type 0 where
   edge : ℕ → ℕ → Edge
 
@@ -31,6 +34,7 @@ abbrev pub edges : List Triangle → List Edge
 edges [] = []
 edges (tri a b c ∷ ts) = edge a b ∷ edge b c ∷ edge c a ∷ edges ts
 
+-- the corners of each triangle, three after three
 abbrev pub corners : List Triangle → List ℕ
 corners [] = []
 corners (tri a b c ∷ ts) = a ∷ b ∷ c ∷ corners ts
@@ -51,11 +55,12 @@ is_edge u v (edge a b) = eqb a u && eqb b v
 abbrev pub times : ℕ → ℕ → List Edge → ℕ
 times u v es = tally (is_edge u v) es
 
--- An edge from a lower to a higher vertex that is no ring edge either way. A pair of different vertices that occurs once in each direction, and is no ring edge, has exactly one such edge.
+-- An edge from a lower to a higher vertex that is no ring edge in either direction. A pair of different vertices that occurs once in each direction, and is
+-- no ring edge, has exactly one such edge.
 abbrev pub inner : List ℕ → Edge → Bool
 inner w (edge u v) = ltb u v && eqb (times u v (ring_edges w)) 0 && eqb (times v u (ring_edges w)) 0
 
--- ---- demand 3, of the triangles ts on n vertices that are gone round forward or reversed
+-- ---- ts triangulate a ring of n vertices that is gone round forward or reversed
 
 pub record Triangulation (forward : Bool) (n : ℕ) (ts : List Triangle) : Type 0 where
   -- there are n - 2 triangles

@@ -8,7 +8,7 @@ use Rattle.openrdson_core.specs.Points.{ring_fault}
 use Rattle.meshing.specs.Ring.{kept, gathered}
 use Rattle.meshing.specs.Triangles.{Triangle, corners, triples, Triangulation}
 use Rattle.meshing.specs.Ears.{is_forward, triangles_of}
-use Rattle.meshing.specs.declared.triangulate.Triangulation.{Triangulation as Numbers}
+use Rattle.meshing.specs.declared.triangulate.PolygonCounts.{PolygonCounts}
 
 -- the cleaned ring, as the places kept, and its triangles
 pub record Cutting : Type 0 where
@@ -29,16 +29,17 @@ triangulate_polygon xs ys m n c = unless (eqb m n) 16 (and_then (ring_fault xs y
 
 -- ---- what the call answers, the numbers of vertices and of triangles, and what it leaves in the lists
 
-abbrev pub numbers : Cutting → Numbers
+-- the numbers that it gives
+abbrev pub numbers : Cutting → PolygonCounts
 numbers c = record { vertices = length c.ring; triangles = length c.triangles }
 
-pub record Leaves (a : Answer Cutting) (xs ys ox oy : List Float) (cs : List ℕ) (r : Result Numbers Refusal) (ox' oy' : List Float) (cs' : List ℕ) : Type 0 where
+pub record Leaves (a : Answer Cutting) (xs ys ox oy : List Float) (cs : List ℕ) (r : Result PolygonCounts Refusal) (ox' oy' : List Float) (cs' : List ℕ) : Type 0 where
   pub answer : answered r ≡ map_answer numbers a
   pub writes_x : ox' ≡ left (map_answer (λ (c : Cutting). put ox 0 (gathered xs c.ring)) a) ox
   pub writes_y : oy' ≡ left (map_answer (λ (c : Cutting). put oy 0 (gathered ys c.ring)) a) oy
   pub writes_corners : cs' ≡ left (map_answer (λ (c : Cutting). put cs 0 (corners c.triangles)) a) cs
 
--- demand 3, of the lists written: the triangles are a triangulation of the ring, walked round in the direction of its computed area
-abbrev pub Demand3 : Result Numbers Refusal → List Float → List Float → List ℕ → Type 0
-Demand3 (Ok n) ox oy cs = Triangulation (is_forward (take n.vertices ox) (take n.vertices oy)) n.vertices (triples (take (n.triangles * 3) cs))
-Demand3 (Err why) ox oy cs = Unit
+-- the triangles written are a triangulation of the ring written, walked round in the direction of its computed area
+abbrev pub TriangulationLeft : Result PolygonCounts Refusal → List Float → List Float → List ℕ → Type 0
+TriangulationLeft (Ok n) ox oy cs = Triangulation (is_forward (take n.vertices ox) (take n.vertices oy)) n.vertices (triples (take (n.triangles * 3) cs))
+TriangulationLeft (Err why) ox oy cs = Unit

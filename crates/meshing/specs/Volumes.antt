@@ -30,9 +30,11 @@ is_plain x = le (of_bits binary64 0x20b0_0000_0000_0000) (abs x) && le (abs x) (
 abbrev pub cross_product : Point3 → Point3 → Point3
 cross_product u v = the_point3 (u.y ⊗ v.z ⊖ u.z ⊗ v.y) (u.z ⊗ v.x ⊖ u.x ⊗ v.z) (u.x ⊗ v.y ⊖ u.y ⊗ v.x)
 
+-- half the size of the cross product of two sides
 unfoldable pub triangle_area : Point3 → Point3 → Point3 → Float
 triangle_area a b c = half64 ⊗ norm (cross_product (minus b a) (minus c a))
 
+-- the mean of the sizes of three heights
 unfoldable pub mean_height : Float → Float → Float → Float
 mean_height p q r = (abs p ⊕ abs q ⊕ abs r) ⊘ three64
 
@@ -65,5 +67,6 @@ module _ (xs ys zs : List Float) where
   unfoldable pub volume_below : List ℕ → List ℕ → ℕ → Float
   volume_below kinds places n = fold_below n (λ sum e. sum ⊕ element_volume (get_or kinds e 0) (part (8 * e) 8 places)) zero64
 
+-- the volume of a mesh: 16, 2, 1, 15, 13
 unfoldable pub mesh_volume : Mesh → Answer Float
 mesh_volume m = and_then (mesh_fault true m) (λ _. given (volume_below m.xs m.ys m.zs m.kinds m.places (length m.kinds)))

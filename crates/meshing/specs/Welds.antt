@@ -22,7 +22,7 @@ same (pos a) (negsuc b) = false
 same (negsuc a) (pos b) = false
 same (negsuc a) (negsuc b) = eqb a b
 
--- a node's key, by a name that crates above can say
+-- a node's key, by a name that other crates can use
 abbrev pub NodeKey : Type 0
 NodeKey = Key
 
@@ -56,10 +56,11 @@ module _ (tolerance : Float) (xs ys zs : List Float) where
   unfoldable pub new_number : ℕ → ℕ
   new_number p = found_or (length kept) (first (λ k. same_key (key_at (get_or kept k 0)) (key_at p)) (length kept) 0)
 
-  -- what stands in a node place after it; an unused place is no node's, and stays
+  -- what stands in a node place after welding; a place that is no node's is unused, and stays
   unfoldable pub renumbered : ℕ → ℕ
   renumbered p = cond (ltb p (length xs)) (new_number p) p
 
+-- the mesh of the nodes kept, with the same elements
 unfoldable pub welded : Float → Mesh → Mesh
 welded tolerance m =
     let ks = kept tolerance m.xs m.ys m.zs in
@@ -95,9 +96,10 @@ pub record KeptNodes (tolerance : Float) (xs ys zs kx ky kz : List Float) : Type
   pub y : ky ≡ gather nan ys (kept tolerance xs ys zs)
   pub z : kz ≡ gather nan zs (kept tolerance xs ys zs)
 
--- lent lists with the nodes ks of xs, ys, zs over their start, and with node places over theirs
+-- lent lists with the nodes ks of xs, ys, zs over their start
 abbrev pub with_kept : List ℕ → List Float → List Float → List Float → Mesh → Mesh
 with_kept ks xs ys zs m = the_mesh (put m.xs 0 (gather nan xs ks)) (put m.ys 0 (gather nan ys ks)) (put m.zs 0 (gather nan zs ks)) m.kinds m.places m.regions
 
+-- lent lists with node places over the start of theirs
 abbrev pub with_places : List ℕ → Mesh → Mesh
 with_places new m = the_mesh m.xs m.ys m.zs m.kinds (put m.places 0 new) m.regions

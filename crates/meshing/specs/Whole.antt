@@ -10,7 +10,7 @@ use Rattle.openrdson_core.specs.declared.mesh.Counts.{Counts}
 unfoldable pub nodes_in : List Float → List Float → List Float → Bool
 nodes_in xs ys zs = all_below (length xs) (λ i. at_most 20 (at xs i) && at_most 20 (at ys i) && at_most 20 (at zs i))
 
--- 15 for an element anywhere, then 13 for one anywhere
+-- 15 for any element, then 13 for any
 unfoldable pub elements_fault : ℕ → List ℕ → List ℕ → Answer (Unit {0})
 elements_fault nodes kinds places =
     unless (all_below (length kinds) (λ e. sound_element (get_or kinds e 0) (part (8 * e) 8 places))) 15
@@ -25,13 +25,14 @@ mesh_fault ok m =
     (unless (nodes_in m.xs m.ys m.zs && ok) 1
     (elements_fault (length m.xs) m.kinds m.places)))
 
--- the two parts of it: 16, 2; then 1, 15, 13
+-- the first part of it: 16, 2
 abbrev pub mesh_size : Mesh → Answer (Unit {0})
 mesh_size m =
     unless (parallel m) 16
     (unless (leb (length m.xs) 1048576 && leb (length m.kinds) 1048576) 2
     (given tt))
 
+-- the second part, of the mesh alone: 1, 15, 13
 abbrev pub contents_fault : Mesh → Answer (Unit {0})
 contents_fault m = unless (nodes_in m.xs m.ys m.zs) 1 (elements_fault (length m.xs) m.kinds m.places)
 

@@ -11,7 +11,7 @@ use crate::grid::{write_hexes, write_nodes};
 use crate::writes::fill;
 use geometry::LARGEST_MATERIAL;
 use openrdson_core::{
-    Bbox, Counts, ElementType, Heights, Material, MeshLists, Point, Point3, Refusal, has_room,
+    Bbox, Counts, ElementType, Heights, Material, MeshLists, Point3, Refusal, has_room,
 };
 
 // Whether a box is meshed: 16; 15 for counts, then for its material; 1 for its bounds; then as `cells_check`.
@@ -35,9 +35,7 @@ fn box_check(
     if material.0 > LARGEST_MATERIAL {
         return Err(Refusal::OutsideList);
     }
-    let low = Point::new(bounds.min_x, bounds.min_y);
-    let high = Point::new(bounds.max_x, bounds.max_y);
-    if !(low.is_in_range() & high.is_in_range() & heights.is_in_range()) {
+    if !(bounds.is_in_range() & heights.is_in_range()) {
         return Err(Refusal::NumberOutOfRange);
     }
     let size = Point3::new(
@@ -93,7 +91,7 @@ fn room_check(cells: Cells, counts: Counts, nodes: usize, kinds: usize) -> Resul
     Ok(cells)
 }
 
-// Writes a box that has been judged, and counts what is there then.
+// Writes a box that has been judged, and gives the new counts.
 fn write_box(
     bounds: Bbox,
     heights: Heights,

@@ -1,5 +1,5 @@
 // Cells and coordinates on an axis.
-ghost use Rattle.std.specs.Prelude.{◌≡◌, ◌≤◌, ◌+◌, ◌*◌};
+ghost use Rattle.std.specs.Prelude.{◌≡◌, ◌≤◌, ◌<◌, ◌+◌, ◌*◌};
 ghost use Rattle.binary64.specs.Numbers.{◌⊖◌, ◌⊘◌};
 ghost use Rattle.openrdson_core.specs.Answers.{answer};
 ghost use Rattle.meshing.specs.Grid.{grid_nodes, grid_cells};
@@ -7,7 +7,7 @@ ghost use Rattle.meshing.specs.Cells as spec;
 
 use openrdson_core::Refusal;
 
-// Cell sizes: across, and in height.
+// The two cell sizes: along x and y, and in height.
 #[derive(Clone, Copy)]
 pub struct MeshConfig {
     pub lateral_cell: f64,
@@ -15,6 +15,7 @@ pub struct MeshConfig {
 }
 
 impl MeshConfig {
+    // The original's default.
     pub const DEFAULT: MeshConfig = MeshConfig {
         lateral_cell: 1e-6,
         z_cell: 0.1e-6,
@@ -32,7 +33,7 @@ impl Default for MeshConfig {
 // 1 - 1e-12
 const ALMOST_ONE: f64 = 0.999999999999;
 
-// The cells of an extent: 1, 5, 6, 7.
+// How many cells an extent has; 1, 5, 6, 7.
 #[tactic(auto, unfolding(crate::specs::Cells::cell_count))]
 pub fn cell_count(extent: f64, cell: f64) -> Result<usize, Refusal>
     ensures { answer result ≡ spec.cell_count extent cell }
@@ -43,7 +44,7 @@ pub fn cell_count(extent: f64, cell: f64) -> Result<usize, Refusal>
     cells_of(extent, cell)
 }
 
-// The coordinate at a place of the axis from min to max: 1, 5, 6, 7, 15.
+// The coordinate at a place of the axis from min to max, of cells of this size; 1, 5, 6, 7, 15.
 #[tactic(auto, using(crate::proofs::CellLaws::count_most), unfolding(crate::specs::Cells::axis_coordinate))]
 pub fn axis_coordinate(min: f64, max: f64, cell: f64, place: usize) -> Result<f64, Refusal>
     ensures { answer result ≡ spec.axis_coordinate min max cell place }
@@ -61,7 +62,7 @@ pub fn axis_coordinate(min: f64, max: f64, cell: f64, place: usize) -> Result<f6
     Ok(Axis::new(min, max, n).at(place))
 }
 
-// The cells of an extent, both in range: 5, 6, 7.
+// How many cells an extent has, where it and the cell size are in range; 5, 6, 7.
 #[tactic(auto, unfolding(crate::specs::Cells::cells_of))]
 fn cells_of(extent: f64, cell: f64) -> Result<usize, Refusal>
     ensures { answer result ≡ spec.cells_of extent cell }
@@ -119,7 +120,7 @@ impl Cells {
 pub struct Axis {
     pub low: f64,
     pub high: f64,
-    pub step: f64,
+    step: f64,
     pub cells: usize,
     ghost few: { cells ≤ 4096 },
     ghost even: { step ≡ (high ⊖ low) ⊘ spec.real cells },
@@ -143,8 +144,18 @@ impl Axis {
         }
     }
 
-    // The coordinate at place i; the last is exactly high. A u32 is turned into a float more quickly than a usize.
-    #[tactic(auto, using(crate::proofs::GridLaws::axis_inner, crate::proofs::GridLaws::axis_last))]
+    // The coordinate at a place before the last. A u32 is turned into a float more quickly than a usize.
+    #[tactic(auto, using(crate::proofs::GridLaws::axis_inner))]
+    pub fn before_end(self, i: usize) -> f64
+        requires { i < self.cells }
+        ensures { result ≡ spec.axis_at self.low self.high self.cells i }
+    {
+        let place = i as u32;
+        self.low + self.step * (place as f64)
+    }
+
+    // The coordinate at place i; the last is exactly high.
+    #[tactic(auto, using(crate::proofs::GridLaws::axis_last))]
     pub fn at(self, i: usize) -> f64
         requires { i ≤ self.cells }
         ensures { result ≡ spec.axis_at self.low self.high self.cells i }
@@ -152,7 +163,6 @@ impl Axis {
         if i == self.cells {
             return self.high;
         }
-        let place = i as u32;
-        self.low + self.step * (place as f64)
+        self.before_end(i)
     }
 }

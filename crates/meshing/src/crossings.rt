@@ -7,12 +7,10 @@ ghost use Rattle.lists.specs.Sorts.{slot, insert_at};
 ghost use Rattle.binary64.specs.Numbers.{at as entry};
 ghost use Rattle.meshing.specs.Crossings as spec;
 
-use crate::ring::next_place;
-use openrdson_core::{Point, Ring};
+use openrdson_core::{Point, Ring, next_place};
 
-// Of edges that span the height `below`, in any order, the first m of `edges`: makes them those that cross the height y, from left to right, and counts
-// them; none if one crosses it where document 01 admits no number.
-// The edges of one band are nearly those of the next, in nearly the same order. The list is room that the bands share, so m goes with it.
+// The first m of `edges` are those that span the height `below`, in any order. Puts in their place those that cross the height y, from left to right, and
+// counts them; none if one crosses it out of range. The edges of one band are nearly those of the next, in nearly the same order, and are sorted quickly.
 pub fn cross(
     ring: Ring<'_>,
     below: f64,
@@ -29,8 +27,8 @@ pub fn cross(
     Some(count)
 }
 
-// Of edges that span the height `below`, in any order, the first m of `edges`: makes them those that span the height y, and counts them: first those
-// that were there, in their order, then the new ones.
+// The first m of `edges` are those that span the height `below`, in any order. Puts in their place those that span the height y, and counts them: first
+// those that span both, in their order, then the others.
 #[tactic(auto, using(crate::proofs::CrossingLaws::spanning_below, crate::proofs::CrossingLaws::next_most, crate::proofs::CrossingLaws::next_spanning, lists::proofs::Parts::between_lent, lists::proofs::Passing::same_between, lists::proofs::Places::below_drop))]
 fn next_edges(ring: Ring<'_>, below: f64, y: f64, edges: &mut [usize], m: usize) -> usize
     requires { (length ring.ys.now ≤ length edges.old) × (m ≤ length edges.old) × SameEntries (take m edges.old) (spec.spanning ring.ys.now below) }
@@ -51,7 +49,8 @@ fn spans(ys: &[f64], y: f64, e: usize) -> bool
     (ys[e] <= y) != (ys[f] <= y)
 }
 
-// Moves the edges that span the height y to the start of the list, and counts them.
+// Moves the edges that span the height y to the start of the list, and counts them. By hand: std has `retain` for lists on the heap alone, and the libraries
+// have no heap and rest on std alone (README). `drop_close` (levels.rt) says why this is a loop of its own.
 fn keep_spanning(ys: &[f64], y: f64, edges: &mut [usize]) -> usize
     requires { Below (length ys.now) edges.old }
     ensures { (take result edges.new ≡ passing (spec.spans ys.now y) edges.old) × (result ≤ length edges.old) }
@@ -112,8 +111,8 @@ pub fn edge_at(ring: Ring<'_>, y: f64, e: usize) -> f64
     line_at(ring.point(e), ring.point(f), y)
 }
 
-// Turns the edges round if the last crosses the height left of the first: those of a comb may come from right to left.
-// That the edges are the ring's is asked for, here and where they are kept and sorted: a type could not hold it while they move.
+// Reverses the edges if the last crosses the height left of the first: the new edges of a ring may come from right to left. Here, and where edges are kept
+// and sorted, it is asked that they are the ring's: a type could not keep that fact while they move.
 #[tactic(auto, using(lists::proofs::Places::below_at, lists::proofs::Counts::total_reverse))]
 fn turn_if_falling(ring: Ring<'_>, y: f64, edges: &mut [usize])
     requires { Below (length ring.xs.now) edges.old }
@@ -128,7 +127,8 @@ fn turn_if_falling(ring: Ring<'_>, y: f64, edges: &mut [usize])
     }
 }
 
-// Sorts the edges by x at the height y, and those that cross it at one x by their number; none if one crosses it out of range.
+// Sorts the edges by x at the height y, and those that cross it at one x by their number; none if one crosses it out of range. By hand: each x is worked out
+// once and moves with its edge in a second list, and std sorts one list.
 #[tactic(auto, using(crate::proofs::CrossingLaws::sorting_start))]
 fn sort_crossings(ring: Ring<'_>, y: f64, edges: &mut [usize], at: &mut [f64]) -> Option<()>
     requires { (length edges.old ≤ length at.old) × Below (length ring.xs.now) edges.old }
@@ -146,7 +146,7 @@ fn sort_crossings(ring: Ring<'_>, y: f64, edges: &mut [usize], at: &mut [f64]) -
 }
 
 // Puts e into the first m edges where it goes, and x into the first m of `at` at the same place. Later edges are kept:
-// they are not sorted yet.
+// they are not sorted yet. One loop finds the place and moves both lists: a search and a `copy_within` for each list would go over them three times.
 #[tactic(auto, using(lists::proofs::Sorts::shift_start, lists::proofs::Sorts::shift_end, lists::proofs::Sorts::shift_past, lists::proofs::Sorts::stops_first))]
 fn insert_crossing(edges: &mut [usize], at: &mut [f64], m: usize, x: f64, e: usize)
     requires { (m < length edges.old) × (m < length at.old) }

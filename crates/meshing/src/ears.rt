@@ -9,8 +9,8 @@ ghost use Rattle.meshing.specs.Triangles.{corners};
 ghost use Rattle.meshing.specs.Clipping.{triangle_at, without, clip};
 ghost use Rattle.meshing.specs.Ears as spec;
 
-use crate::ring::{next_place, prev_place};
-use openrdson_core::{Point, Refusal, Ring};
+use crate::ring::prev_place;
+use openrdson_core::{Point, Refusal, Ring, next_place};
 
 // What remains of a walk round a ring: the numbers of its vertices.
 #[derive(Clone, Copy)]
@@ -63,19 +63,15 @@ fn is_blocking(ring: Ring<'_>, a: usize, b: usize, c: usize, j: usize) -> bool
 }
 
 // Whether no vertex of the walk blocks the triangle a b c. The scan ends at the first that does.
-#[tactic(auto, using(lists::proofs::Scans::all_start, lists::proofs::Scans::all_more, lists::proofs::Places::below_at), unfolding(crate::specs::Ears::is_clear))]
 fn is_clear(walk: Walk<'_>, a: usize, b: usize, c: usize) -> bool
     requires a { a < length walk.ring.xs.now }
     requires b { b < length walk.ring.xs.now }
     requires c { c < length walk.ring.xs.now }
     ensures { result ≡ spec.is_clear walk.entry.ring.xs.now walk.entry.ring.ys.now walk.entry.vertices.now a b c }
 {
-    for &j in walk.vertices {
-        if is_blocking(walk.ring, a, b, c, j) {
-            return false;
-        }
-    }
-    true
+    walk.vertices
+        .iter()
+        .all(|j| !is_blocking(walk.ring, a, b, c, *j))
 }
 
 // Whether the vertex at place i of a walk is an ear: its corner turns left, and no other vertex blocks it.
@@ -93,19 +89,13 @@ fn is_ear(walk: Walk<'_>, i: usize) -> bool
 }
 
 // The place of the first ear from the walk's start on.
-#[tactic(auto, using(lists::proofs::Searches::search_start, lists::proofs::Searches::search_more, lists::proofs::Searches::search_found, lists::proofs::Searches::search_end))]
 fn first_ear(walk: Walk<'_>) -> Option<usize>
     ensures { result ≡ spec.first_ear walk.entry.ring.xs.now walk.entry.ring.ys.now walk.entry.vertices.now }
 {
-    for i in 0..walk.vertices.len() {
-        if is_ear(walk, i) {
-            return Some(i);
-        }
-    }
-    None
+    (0..walk.vertices.len()).find(|i| is_ear(walk, *i))
 }
 
-// Takes place i out of a walk: those before it move one up, and the walk begins one later. The search has gone over them, so this costs no more.
+// Takes place i out of a walk: those before it move one up, and the walk begins one later. The search has read those too: this takes no longer.
 #[tactic(auto, using(crate::proofs::ClipLaws::moved_up))]
 fn remove_at(walk: &mut [usize], i: usize)
     requires { i < length walk.old }
@@ -125,9 +115,8 @@ fn put_triangle(out: &mut [u32], t: usize, a: usize, b: usize, c: usize)
     out[t + 2] = c as u32;
 }
 
-// Cuts ears off a walk until three vertices remain, and writes the corners of all triangles; 4 where there is no ear. The walk is used up. For callers
-// whose walk is of a ring's vertices and has three or more, and who have room for the corners. The room goes with
-// the ring's length, so a type for it would hold no more.
+// Cuts ears off a walk until three vertices remain, and writes the corners of all triangles; 4 where there is no ear. The walk is overwritten.
+// For callers whose walk is of a ring's vertices and has three or more, and who have room for the corners: a type for the room would hold its length alone.
 pub fn clip_walk(ring: Ring<'_>, walk: &mut [usize], out: &mut [u32]) -> Result<(), Refusal>
     requires { (3 ≤ length walk.old) × Below (length ring.xs.now) walk.old × ((length walk.old - 2) * 3 ≤ length out.old) }
     ensures { map_answer (λ _. take ((length walk.old - 2) * 3) out.new) (answer result) ≡ map_answer corners (clip (spec.is_ear ring.entry.xs.now ring.entry.ys.now) walk.old) }

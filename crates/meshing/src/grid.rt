@@ -1,4 +1,5 @@
-// The nodes and hexes of a box, written into lent lists. What is asked of room and of node numbers goes with what is written: a row, a plane or all.
+// The nodes and hexes of a box, written into lent lists. Each function asks for room, and for node numbers that a mesh may have, for what it writes: a row,
+// a plane or all.
 ghost use Rattle.std.specs.Prelude.{◌≡◌, ◌+◌, ◌*◌, ◌≤◌, length};
 ghost use Rattle.lists.specs.Lists.{put, runs, elems};
 ghost use Rattle.openrdson_core.specs.Mesh.{held, Same};
@@ -35,7 +36,7 @@ fn node_plane(lists: &mut MeshLists<'_>, at: usize, x: Axis, y: Axis, z: f64)
     }
 }
 
-// A row of nodes, all at y and z, one for each place along x. A u32 is turned into a float more quickly than a usize.
+// A row of nodes, all at y and z, one for each place along x.
 fn node_row(lists: &mut MeshLists<'_>, at: usize, x: Axis, y: f64, z: f64)
     requires { NodesFit (held lists.old) (at + (x.cells + 1)) }
     ensures nodes { held lists.new ≡ with_nodes (held lists.old) at (elems (x.cells + 1) (λ i. axis_at x.low x.high x.cells i))
@@ -47,8 +48,7 @@ fn node_row(lists: &mut MeshLists<'_>, at: usize, x: Axis, y: f64, z: f64)
     let zs = &mut *lists.zs;
     for i in 0..x.cells {
         let p = at + i;
-        let place = i as u32;
-        xs[p] = x.low + x.step * (place as f64);
+        xs[p] = x.before_end(i);
         ys[p] = y;
         zs[p] = z;
     }

@@ -13,20 +13,23 @@ pub struct Band {
     pub high: f64,
 }
 
-// Fills the start of `out` with the levels of ys, in rising order, and counts them. For callers that have checked the ring and found room.
-pub fn level_list(ys: &[f64], out: &mut [f64]) -> usize
+// The levels of ys, in rising order, written over the start of `out`. For callers that have checked the ring and found room.
+pub fn level_list<'a>(ys: &[f64], out: &'a mut [f64]) -> &'a [f64]
     requires { (length ys.now ≤ length out.old) × (all_of (at_most 20) ys.now ≡ true) }
-    ensures { (take result out.new ≡ spec.levels ys.now) × (result ≤ length ys.now) }
+    ensures are { result.now ≡ spec.levels ys.now }
+    ensures within { length result.now ≤ length ys.now }
 {
     let mut count = 0;
     for i in 0..ys.len() {
         count = add_level(out, count, ys[i]);
     }
-    drop_close(&mut out[..count])
+    let apart = drop_close(&mut out[..count]);
+    &out[..apart]
 }
 
-// Puts y among the first m of l, which rise, unless one of them equals it: that one comes to the same levels. Gives how many there are then.
+// Puts y among the first m of l, which rise, unless one of them equals it: a second height that is equal changes no level. Gives how many there are then.
 // One caller has the list and how many of it count: a struct of the two would be no plainer.
+// Not by std's `sort_unstable_by`: that sorts all heights before any is dropped, by an order that f64 has not, and here a height that is there is found at once.
 fn add_level(l: &mut [f64], m: usize, y: f64) -> usize
     requires { (m < length l.old) × (all_of (at_most 20) (take m l.old) ≡ true) × (at_most 20 y ≡ true) }
     ensures { spec.LevelsAlike (take result l.new) (insert_by lt y (take m l.old)) × (all_of (at_most 20) (take result l.new) ≡ true) × (result ≤ m + 1) }
@@ -43,27 +46,25 @@ fn add_level(l: &mut [f64], m: usize, y: f64) -> usize
 fn level_slot(l: &[f64], y: f64) -> usize
     ensures { (result ≡ slot (λ k. lt y (entry l.now k)) (length l.now)) × (result ≤ length l.now) }
 {
-    for k in (0..l.len()).rev() {
-        if !(y < l[k]) {
-            return k + 1;
-        }
-    }
-    0
+    l.iter()
+        .rposition(|level| !(y < *level))
+        .map_or(0, |k| k + 1)
 }
 
-// Puts y at place k of l; those from k on move one to the right, and the last falls out. Each moves once: arrayvec's `insert` turns them round, with
-// several moves each.
+// Puts y at place k of l; those from k on move one to the right, and the last is dropped. Each moves once: arrayvec's `insert` reverses
+// parts of the list, with several moves each.
+#[tactic(auto, using(crate::proofs::LevelLaws::level_put))]
 fn insert_level(l: &mut [f64], k: usize, y: f64)
     requires { k < length l.old }
     ensures { l.new ≡ insert_at k y (take (length l.old - 1) l.old) }
 {
-    for j in (k..l.len() - 1).rev() {
-        l[j + 1] = l[j];
-    }
+    let last = l.len() - 1;
+    l.copy_within(k..last, k + 1);
     l[k] = y;
 }
 
-// Moves those of l that are not within 1e-15 of the last kept to its start, and counts them.
+// Moves those of l that are not within 1e-15 of the last kept to its start, and counts them. `keep_spanning` (crossings.rt) and `kept_places` (ring.rt) have
+// loops of the same form: the one tests without the last kept, the other keeps places of another list, and one function for all three would be no plainer.
 fn drop_close(l: &mut [f64]) -> usize
     ensures { (take result l.new ≡ spec.apart l.old) × (result ≤ length l.old) }
 {

@@ -1,4 +1,5 @@
-// Meshes of regions (the original's meshing/src/lib.rs).
+// Triangulating rings, meshing regions and models, welding a mesh, and its volume (the original's meshing/src/lib.rs). The numbers at the end of a function's
+// comment are its refusals (openrdson_core's refusals.rt), in the order in which they are tried.
 #![tactic(auto)]
 
 mod boxes;
@@ -26,6 +27,6 @@ pub use model::{Overrides, mesh_model, mesh_model_with_options};
 pub use prism::mesh_prism;
 pub use region::mesh_region;
 pub use ring::dedup_ring;
-pub use triangulate::{Triangulation, triangulate_polygon};
+pub use triangulate::{PolygonCounts, triangulate_polygon};
 pub use volume::mesh_volume;
 pub use weld::weld_nodes;

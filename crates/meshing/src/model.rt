@@ -1,4 +1,5 @@
-// Meshing a model: every region of a region list, with cell sizes by material.
+// Meshing a model: every region of a region list, with cell sizes by material. The calls take the two lists of points by themselves, as they are lent, and
+// the functions take the counts beside the lists: a struct of counts and `&mut` lists that keeps what is known of both cannot be lent on.
 ghost use Rattle.std.specs.Prelude.{◌≡◌, ◌≤◌, ◌<◌, length, IfOk};
 ghost use Rattle.lists.specs.Answer.{map_answer};
 ghost use Rattle.lists.specs.Lists.{all_of};
@@ -21,7 +22,7 @@ pub struct Overrides<'a> {
     pub verticals: &'a [f64],
 }
 
-// The same in equally long lists.
+// Overrides in equally long lists.
 #[derive(Clone, Copy)]
 struct EvenOverrides<'a> {
     lists: Overrides<'a>,
@@ -47,7 +48,7 @@ impl Overrides<'_> {
             & (self.verticals.len() == self.materials.len())
     }
 
-    // Whether each names a material (15).
+    // Whether each names a material, from 1 to the largest (15).
     fn are_named(self) -> bool
         ensures { result ≡ all_of spec.named self.entry.materials.now }
     {
@@ -60,21 +61,23 @@ impl EvenOverrides<'_> {
     fn config_for(self, material: Material, default: MeshConfig) -> MeshConfig
         ensures { result ≡ spec.config_for (spec.overrides_of self.entry.lists) default material.0 }
     {
-        let mut found = default;
-        for i in 0..self.lists.materials.len() {
-            if self.lists.materials[i] == material.0 {
-                found = MeshConfig {
-                    lateral_cell: self.lists.laterals[i],
-                    z_cell: self.lists.verticals[i],
-                };
-            }
+        let Overrides {
+            materials,
+            laterals,
+            verticals,
+        } = self.lists;
+        let Some(i) = materials.iter().rposition(|named| *named == material.0) else {
+            return default;
+        };
+        MeshConfig {
+            lateral_cell: laterals[i],
+            z_cell: verticals[i],
         }
-        found
     }
 }
 
 impl Job<'_> {
-    // Meshes region i, whose elements carry its place.
+    // Meshes region i; its elements carry its place in the list.
     fn mesh_row(
         self,
         i: usize,
@@ -91,7 +94,7 @@ impl Job<'_> {
         mesh_region(region, xs, ys, i as u32, config, counts, lists)
     }
 
-    // Meshes every region, and gives the counts.
+    // Meshes every region, writes a diagnostic for each, and gives the counts.
     fn mesh_rows(self, counts: Counts, lists: &mut MeshLists<'_>, diagnostics: &mut [u32]) -> Counts
         requires { length self.regions.lists.kinds.now ≤ length diagnostics.old }
         ensures rows { spec.RunAs (spec.run_to (listed self.entry.regions.lists) self.entry.points.xs.now self.entry.points.ys.now (spec.overrides_of self.entry.overrides.lists) self.entry.config counts (held lists.old) (length self.entry.regions.lists.kinds.now)) result (held lists.new) diagnostics.old diagnostics.new }
@@ -168,7 +171,7 @@ pub fn mesh_model_with_options(
     Ok(job.mesh_rows(counts, lists, diagnostics))
 }
 
-// The same with no override: document 01 names both calls.
+// The same with no override; 16, 2, 15, 12. The original has both calls.
 pub fn mesh_model(
     regions: Regions<'_>,
     xs: &[f64],

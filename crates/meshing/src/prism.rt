@@ -1,32 +1,35 @@
-// Meshing a prism region: clipped into triangular prisms, or by the scanline. The counts and the lists go together, and `Grows` is asked of both: a struct
-// of them that keeps the fact was tried, and cannot be lent on.
+// Meshing a prism region: clipped into triangular prisms, or by the scanline. Each function asks for `Grows` of the counts and the lists: a struct of both that
+// keeps the fact cannot be lent on.
 ghost use Rattle.std.specs.Prelude.{◌≡◌, false, ◌+◌, ◌-◌, ◌*◌, ◌≤◌, length, IfOk};
 ghost use Rattle.lists.specs.Answer.{given, map_answer};
 ghost use Rattle.lists.specs.Lists.{put, joined, Below, part};
 ghost use Rattle.openrdson_core.specs.Mesh.{held, Same};
 ghost use Rattle.openrdson_core.specs.Answers.{answer};
 ghost use Rattle.meshing.specs.Added.{Adds, Grows, Appends};
-ghost use Rattle.meshing.specs.Triangles.{corners as corners_of, triples};
+ghost use Rattle.meshing.specs.Triangles.{triples};
 ghost use Rattle.meshing.specs.Rectilinear.{is_rectilinear};
 ghost use Rattle.meshing.specs.Prisms as spec;
 
 use crate::rectilinear::ring_is_rectilinear;
 use crate::ring::{clean_into, is_clean};
 use crate::scanline::{Extrusion, mesh_scanline};
-use crate::triangulate::clip_ring;
+use crate::triangulate::{Corners, clip_ring};
 use crate::writes::{copy, fill, write_eight};
+use geometry::{LARGEST_MATERIAL, Part};
 use openrdson_core::{
-    Counts, Heights, Material, MeshLists, Points, Refusal, Ring, SoundRing, UNUSED, has_room,
+    Counts, ElementType, Heights, Material, MeshLists, Points, Refusal, Ring, SoundRing, UNUSED,
+    has_room,
 };
 
-// Writes the node places of the prisms on triangles, from place `at` on, where the n bottom nodes start at `base`.
-fn write_prisms(places: &mut [u32], at: usize, base: usize, n: usize, corners: &[u32])
-    requires { (corners_of (triples corners.now) ≡ corners.now) × Below n corners.now × (base + (n + n) ≤ 1048576) × (at + 8 * length (triples corners.now) ≤ length places.old) }
-    ensures { places.new ≡ put places.old at (joined (spec.prism_places base n) (triples corners.now)) }
+// Writes the node places of the prisms on triangles, from place `at` on, where the n bottom nodes start at `base`. It is asked that the corners are below n,
+// here and in `mesh_tris`: `Corners` does not hold n, and a type that keeps the fact would be made in one place.
+fn write_prisms(places: &mut [u32], at: usize, base: usize, n: usize, corners: Corners<'_>)
+    requires { Below n corners.places.now × (base + (n + n) ≤ 1048576) × (at + 8 * length (triples corners.places.now) ≤ length places.old) }
+    ensures { places.new ≡ put places.old at (joined (spec.prism_places base n) (triples corners.entry.places.now)) }
 {
     let bottom = base as u32;
     let top = (base + n) as u32;
-    let (triangles, _) = corners.as_chunks::<3>();
+    let (triangles, _) = corners.places.as_chunks::<3>();
     for (i, &[a, b, c]) in triangles.iter().enumerate() {
         write_eight(
             places,
@@ -46,22 +49,22 @@ fn write_prisms(places: &mut [u32], at: usize, base: usize, n: usize, corners: &
 }
 
 // Meshes a ring by its triangles, where there is room: bottom nodes 0 to n - 1, top nodes n to 2n - 1; 12.
-#[tactic(auto, using(crate::proofs::PrismLaws::tris_no_nodes, crate::proofs::PrismLaws::tris_no_elements, crate::proofs::PrismLaws::room_in, crate::proofs::PrismLaws::triples_many, crate::proofs::BoxWrites::refused_adds))]
+#[tactic(auto, using(crate::proofs::PrismLaws::tris_no_nodes, crate::proofs::PrismLaws::tris_no_elements, crate::proofs::Rooms::room_in, crate::proofs::PrismLaws::triples_many, crate::proofs::BoxWrites::refused_adds))]
 fn mesh_tris(
     extrusion: Extrusion<'_>,
-    corners: &[u32],
+    corners: Corners<'_>,
     region: u32,
     counts: Counts,
     lists: &mut MeshLists<'_>,
 ) -> Result<Counts, Refusal>
-    requires ring { (corners_of (triples corners.now) ≡ corners.now) × Below (length extrusion.ring.ring.xs.now) corners.now × (length corners.now ≤ 1530) }
+    requires ring { Below (length extrusion.ring.ring.xs.now) corners.places.now × (length corners.places.now ≤ 1530) }
     requires grows { Grows counts (held lists.old) }
-    ensures mesh { Appends (given (spec.cut_part counts.nodes extrusion.entry (triples corners.now))) counts region (held lists.old) (held lists.new) result }
+    ensures mesh { Appends (given (spec.cut_part counts.nodes extrusion.entry (triples corners.entry.places.now))) counts region (held lists.old) (held lists.new) result }
     ensures same { Same lists.old lists.new }
 {
     let ring = extrusion.ring.ring;
     let n = ring.xs.len();
-    let triangles = corners.len() / 3;
+    let triangles = corners.places.len() / 3;
     if !has_room(n + n, counts.nodes, lists.xs.len()) {
         return Err(Refusal::OutputTooShort);
     }
@@ -76,7 +79,8 @@ fn mesh_tris(
     copy(ring.ys, lists.ys, top);
     fill(lists.zs, bottom, n, extrusion.heights.bottom);
     fill(lists.zs, top, n, extrusion.heights.top);
-    fill(lists.kinds, counts.elements, triangles, 2);
+    let prism = u8::from(ElementType::Prism);
+    fill(lists.kinds, counts.elements, triangles, prism);
     write_prisms(lists.places, 8 * counts.elements, bottom, n, corners);
     fill(lists.regions, counts.elements, triangles, region);
     Ok(Counts {
@@ -108,12 +112,12 @@ fn mesh_cut<const N: usize>(
                 ring: again,
                 ..extrusion
             };
-            mesh_tris(cut, corners.places, region, counts, lists)
+            mesh_tris(cut, corners, region, counts, lists)
         }
     }
 }
 
-// The same, with room to work in for a small ring or a large one.
+// The same, with room to work in for a small ring or for a large one: a size chooses a const parameter, as in `mesh_scanline`.
 fn mesh_again(
     extrusion: Extrusion<'_>,
     again: SoundRing<'_>,
@@ -136,9 +140,9 @@ fn mesh_again(
     mesh_cut::<1530>(extrusion, again, region, counts, lists)
 }
 
-// A ring, cleaned into the start of two lists.
+// A sound ring, cleaned into the start of two lists.
 #[tactic(auto, using(crate::proofs::TriangulateLaws::kept_sound))]
-fn cleaned<'a>(
+fn clean_sound<'a>(
     sound: SoundRing<'_>,
     xs: &'a mut [f64; 512],
     ys: &'a mut [f64; 512],
@@ -149,7 +153,8 @@ fn cleaned<'a>(
     SoundRing { ring }
 }
 
-// Meshes a ring, cleaned once: by the scanline if it is rectilinear, which is asked here alone; otherwise it is cleaned again. A ring that is clean is not copied.
+// Meshes a ring, cleaned once: by the scanline if it is rectilinear, else it is cleaned again. A ring that is clean is not copied. Whether it is rectilinear
+// is asked once, here alone: a type for a ring that is not would be made in no other place.
 #[tactic(auto, using(crate::proofs::PrismLaws::ring_scanned, crate::proofs::PrismLaws::part_adds))]
 fn mesh_ring(
     extrusion: Extrusion<'_>,
@@ -170,12 +175,13 @@ fn mesh_ring(
     }
     let mut xs = [0.0; 512];
     let mut ys = [0.0; 512];
-    let again = cleaned(ring, &mut xs, &mut ys);
+    let again = clean_sound(ring, &mut xs, &mut ys);
     mesh_again(extrusion, again, region, counts, lists)
 }
 
-// Cleans a ring, and meshes it. A ring that is clean is not copied, and no room is made for it. `mesh_ring` does the same with another step: with
-// the step a closure that holds `lists`, what it leaves in them is not known; one room for both ways, given its value in one of them, is not covered.
+// Cleans a ring, and meshes it. A ring that is clean is not copied, and no room is made for it. `mesh_ring` has the same form with another step: one function
+// for both would take the step as a closure that holds `lists`, and the check does not know what that leaves in them. The step is called in two places: one
+// call past the test would need a variable that is borrowed on one path and has no value on the other, which the check does not cover.
 #[tactic(auto, using(crate::proofs::PrismLaws::clean_self, crate::proofs::PrismLaws::prism_ring, crate::proofs::PrismLaws::part_adds))]
 fn mesh_part(
     extrusion: Extrusion<'_>,
@@ -193,7 +199,7 @@ fn mesh_part(
     }
     let mut xs = [0.0; 512];
     let mut ys = [0.0; 512];
-    let once = cleaned(ring, &mut xs, &mut ys);
+    let once = clean_sound(ring, &mut xs, &mut ys);
     let extrusion = Extrusion {
         ring: once,
         ..extrusion
@@ -206,12 +212,12 @@ fn mesh_part(
 fn extrusion_of<'a>(
     points: Points<'a>,
     heights: Heights,
-    start: u32,
-    count: u32,
+    footprint: Part,
 ) -> Result<Extrusion<'a>, Refusal>
-    ensures fault { map_answer (λ _. tt {0}) (answer result) ≡ spec.part_fault points.entry.xs.now points.entry.ys.now heights.bottom heights.top start count }
-    ensures is { IfOk result (λ e. (e.ring.ring.xs.now ≡ part start count points.entry.xs.now) × (e.ring.ring.ys.now ≡ part start count points.entry.ys.now) × (e.heights ≡ heights)) }
+    ensures fault { map_answer (λ _. tt {0}) (answer result) ≡ spec.part_fault points.entry.xs.now points.entry.ys.now heights.bottom heights.top footprint.start footprint.count }
+    ensures is { IfOk result (λ e. (e.ring.ring.xs.now ≡ part footprint.start footprint.count points.entry.xs.now) × (e.ring.ring.ys.now ≡ part footprint.start footprint.count points.entry.ys.now) × (e.heights ≡ heights)) }
 {
+    let Part { start, count } = footprint;
     let part = points.part(start, count).ok_or(Refusal::OutsideList)?;
     if points.xs.len() > 2097152 {
         return Err(Refusal::ListTooLong);
@@ -227,7 +233,7 @@ fn extrusion_of<'a>(
 }
 
 // Meshes a prism region, whose footprint is a part of the point lists; its elements are appended after the nodes and elements counted, with the
-// region's number; 16, 15, 2, 1, 8, then the scanline's 3, 9, 10, 1, 11, 1, then 12.
+// region's number; 16, 15, 2, 1, 8, then the scanline's 3, 9, 10, 1, 11, 1, then 12. The call takes the two lists of points by themselves, as they are lent.
 #[tactic(auto, using(crate::proofs::BoxWrites::refused_adds, crate::proofs::BoxWrites::same_adds, crate::proofs::PrismLaws::prism_lists, crate::proofs::PrismLaws::prism_points, crate::proofs::PrismLaws::prism_counts, crate::proofs::PrismLaws::prism_material, crate::proofs::PrismLaws::prism_part_out, crate::proofs::PrismLaws::prism_next))]
 pub fn mesh_prism(
     xs: &[f64],
@@ -250,9 +256,9 @@ pub fn mesh_prism(
     if !lists.holds(counts) {
         return Err(Refusal::OutsideList);
     }
-    if material.0 > 768 {
+    if material.0 > LARGEST_MATERIAL {
         return Err(Refusal::OutsideList);
     }
-    let extrusion = extrusion_of(points, heights, start, count)?;
+    let extrusion = extrusion_of(points, heights, Part { start, count })?;
     mesh_part(extrusion, region, counts, lists)
 }

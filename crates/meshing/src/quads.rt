@@ -1,6 +1,6 @@
 // Quads: in a band, between two neighbouring crossings of its middle.
-ghost use Rattle.std.specs.Prelude.{◌≡◌, [], ◌∷◌, ◌+◌, ◌≤◌, ◌<◌, length};
-ghost use Rattle.lists.specs.Lists.{Below, put, joined};
+ghost use Rattle.std.specs.Prelude.{ℕ, ◌≡◌, [], ◌∷◌, ◌+◌, ◌≤◌, ◌<◌, length, get_or};
+ghost use Rattle.lists.specs.Lists.{put, joined};
 ghost use Rattle.meshing.specs.Scanline.{quad_xs, quad_ys, Tallied};
 ghost use Rattle.meshing.specs.Quads as spec;
 
@@ -9,7 +9,7 @@ use crate::levels::Band;
 use crate::writes::write_eight;
 use openrdson_core::Ring;
 
-// The x of its corners a, b, c, d, counter-clockwise, and the heights of a and b, and of c and d.
+// A quad: the x of its corners a, b, c, d, counter-clockwise, the height of a and b, and that of c and d.
 #[derive(Clone, Copy)]
 pub struct Quad {
     pub ax: f64,
@@ -20,11 +20,20 @@ pub struct Quad {
     pub high: f64,
 }
 
-// How many quads there are, and whether all their corners are in range. No option: what is refused for the one comes before what is for the other.
+// How many quads there are, and whether all their corners are in range. Not an option of a number: that there is no quad (11) comes before a quad out of
+// range (1), and the loop over the quads ends early for neither.
 #[derive(Clone, Copy)]
 pub struct Tally {
     pub quads: usize,
     pub inside: bool,
+}
+
+// Edges of a ring, by their numbers.
+#[derive(Clone, Copy)]
+pub struct Edges<'a> {
+    pub ring: Ring<'a>,
+    pub numbers: &'a [usize],
+    ghost below: { (i : ℕ) → i < length numbers.now → get_or numbers.now i 0 < length ring.xs.now },
 }
 
 // The quad between the edges l and r in a band.
@@ -61,6 +70,7 @@ fn is_flat(q: Quad) -> bool
     binary64::abs(quad_area(q)) < 1e-30
 }
 
+// Whether the x of its corners are in range; its heights are vertices'.
 #[tactic(auto, unfolding(crate::specs::Quads::quad_in))]
 fn is_in_range(q: Quad) -> bool
     ensures { result ≡ spec.quad_in q }
@@ -83,14 +93,14 @@ fn tally_quad(t: Tally, q: Quad) -> Tally
 }
 
 // The tally with the quads between consecutive pairs of edges in a band.
-pub fn tally_quads(ring: Ring<'_>, band: Band, edges: &[usize], t: Tally) -> Tally
-    requires { Below (length ring.xs.now) edges.now × (t.quads + length edges.now ≤ 1048576) }
-    ensures { Tallied t (spec.quads_between ring.entry.xs.now ring.entry.ys.now band edges.now) result × (result.quads ≤ t.quads + length edges.now) }
+pub fn tally_quads(edges: Edges<'_>, band: Band, t: Tally) -> Tally
+    requires { t.quads + length edges.numbers.now ≤ 1048576 }
+    ensures { Tallied t (spec.quads_between edges.entry.ring.xs.now edges.entry.ring.ys.now band edges.entry.numbers.now) result × (result.quads ≤ t.quads + length edges.entry.numbers.now) }
 {
-    let (pairs, _) = edges.as_chunks::<2>();
+    let (pairs, _) = edges.numbers.as_chunks::<2>();
     let mut sum = t;
     for &[left, right] in pairs {
-        let q = quad_of(ring, band, left, right);
+        let q = quad_of(edges.ring, band, left, right);
         if !is_flat(q) {
             sum = tally_quad(sum, q);
         }
@@ -99,24 +109,18 @@ pub fn tally_quads(ring: Ring<'_>, band: Band, edges: &[usize], t: Tally) -> Tal
 }
 
 // Writes the nodes' x and y of the quads between consecutive pairs of edges, from place p on, and says where to go on: bands follow one another in the lists.
-// For callers that have found room for them. The walk is `tally_quads`'s: one that takes a closure needs a law of its turns, and is no shorter.
-pub fn write_quads(
-    ring: Ring<'_>,
-    band: Band,
-    edges: &[usize],
-    nx: &mut [f64],
-    ny: &mut [f64],
-    p: usize,
-) -> usize
-    requires { Below (length ring.xs.now) edges.now × (p + length (joined quad_xs (spec.quads_between ring.xs.now ring.ys.now band edges.now)) ≤ length nx.old) × (length ny.old ≡ length nx.old) }
-    ensures { (nx.new ≡ put nx.old p (joined quad_xs (spec.quads_between ring.entry.xs.now ring.entry.ys.now band edges.now)))
-        × (ny.new ≡ put ny.old p (joined quad_ys (spec.quads_between ring.entry.xs.now ring.entry.ys.now band edges.now)))
-        × (result ≡ p + length (joined quad_xs (spec.quads_between ring.entry.xs.now ring.entry.ys.now band edges.now))) }
+// For callers that have found room for them. It is asked that nx and ny are equally long: they are written, and a struct of `&mut` lists that keeps the fact
+// cannot be lent on. The loop is that of `tally_quads`: one that takes a closure is no shorter, and needs a law of its turns.
+pub fn write_quads(edges: Edges<'_>, band: Band, nx: &mut [f64], ny: &mut [f64], p: usize) -> usize
+    requires { (p + length (joined quad_xs (spec.quads_between edges.ring.xs.now edges.ring.ys.now band edges.numbers.now)) ≤ length nx.old) × (length ny.old ≡ length nx.old) }
+    ensures { (nx.new ≡ put nx.old p (joined quad_xs (spec.quads_between edges.entry.ring.xs.now edges.entry.ring.ys.now band edges.entry.numbers.now)))
+        × (ny.new ≡ put ny.old p (joined quad_ys (spec.quads_between edges.entry.ring.xs.now edges.entry.ring.ys.now band edges.entry.numbers.now)))
+        × (result ≡ p + length (joined quad_xs (spec.quads_between edges.entry.ring.xs.now edges.entry.ring.ys.now band edges.entry.numbers.now))) }
 {
-    let (pairs, _) = edges.as_chunks::<2>();
+    let (pairs, _) = edges.numbers.as_chunks::<2>();
     let mut at = p;
     for &[left, right] in pairs {
-        let q = quad_of(ring, band, left, right);
+        let q = quad_of(edges.ring, band, left, right);
         if !is_flat(q) {
             write_eight(nx, at, [q.ax, q.bx, q.cx, q.dx, q.ax, q.bx, q.cx, q.dx]);
             write_eight(

@@ -2,8 +2,7 @@
 ghost use Rattle.std.specs.Prelude.{◌≡◌};
 ghost use Rattle.meshing.specs.Rectilinear as spec;
 
-use crate::ring::next_place;
-use openrdson_core::{Point, Ring};
+use openrdson_core::{Point, Ring, next_place};
 
 // Whether each edge of a ring keeps x or y, within 1e-9 times the larger of 1.0 and the largest coordinate size.
 pub fn ring_is_rectilinear(ring: Ring<'_>) -> bool
@@ -14,12 +13,7 @@ pub fn ring_is_rectilinear(ring: Ring<'_>) -> bool
         return false;
     }
     let eps = 1e-9 * binary64::larger(largest_size(ring), 1.0);
-    for i in 0..n {
-        if is_slanted(eps, ring.point(i), ring.point(next_place(n, i))) {
-            return false;
-        }
-    }
-    true
+    (0..n).all(|i| !is_slanted(eps, ring.point(i), ring.point(next_place(n, i))))
 }
 
 // The largest coordinate size of a ring.

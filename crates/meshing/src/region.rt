@@ -7,7 +7,7 @@ ghost use Rattle.meshing.specs.Regions as spec;
 use crate::boxes::mesh_box;
 use crate::cells::MeshConfig;
 use crate::prism::mesh_prism;
-use openrdson_core::{Bbox, Counts, Heights, MeshLists, Refusal, Solid, SolidRegion};
+use openrdson_core::{Counts, Footprint, MeshLists, Refusal, SolidRegion};
 
 // Meshes a region, a box as `mesh_box` does or a prism as `mesh_prism` does; its elements carry the number that the caller gives.
 pub fn mesh_region(
@@ -23,29 +23,15 @@ pub fn mesh_region(
     ensures same { Same lists.old lists.new }
 {
     let material = region.material_id;
-    let bottom = region.solid.z_bottom();
-    let top = region.solid.z_top();
-    let heights = Heights { bottom, top };
-    match region.solid {
-        Solid::Box {
-            min_x,
-            min_y,
-            max_x,
-            max_y,
-            ..
-        } => {
+    let (footprint, heights) = region.solid.parts();
+    match footprint {
+        Footprint::Sides(bounds) => {
             if xs.len() != ys.len() {
                 return Err(Refusal::UnequalLists);
             }
-            let bounds = Bbox {
-                min_x,
-                min_y,
-                max_x,
-                max_y,
-            };
             mesh_box(bounds, heights, material, number, config, counts, lists)
         }
-        Solid::Prism { start, count, .. } => mesh_prism(
+        Footprint::Ring { start, count } => mesh_prism(
             xs, ys, heights, start, count, material, number, counts, lists,
         ),
     }

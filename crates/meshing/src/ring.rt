@@ -1,24 +1,14 @@
 // Rings: their points and neighbours, and cleaning, which drops a point that is close to the one before it.
 ghost use Rattle.std.specs.Prelude.{◌≡◌, true, ◌≤◌, ◌<◌, length};
-ghost use Rattle.lists.specs.Lists.{put, elems, Below, next_of, prev_of};
-ghost use Rattle.meshing.specs.Ring.{is_close, kept, gathered, CleanedAs};
+ghost use Rattle.lists.specs.Lists.{put, elems, Below, prev_of};
+ghost use Rattle.meshing.specs.Ring.{is_close, kept, gathered, CleanedAs, CleanedIn};
 
 use openrdson_core::{Point, Refusal, Ring};
 
 // 2^-52, Rust's f64::EPSILON.
 const TINY: f64 = 2.220446049250313e-16;
 
-// The neighbours of place i on a ring of m places. A type for the m places would be made at each call, and hold no more than m.
-pub fn next_place(m: usize, i: usize) -> usize
-    requires { i < m }
-    ensures { (result ≡ next_of m i) × (result < m) }
-{
-    if i + 1 < m {
-        return i + 1;
-    }
-    0
-}
-
+// The place before place i on a ring of m places, as `next_place` of openrdson_core.
 pub fn prev_place(m: usize, i: usize) -> usize
     requires { i < m }
     ensures { (result ≡ prev_of m i) × (result < m) }
@@ -29,7 +19,8 @@ pub fn prev_place(m: usize, i: usize) -> usize
     m - 1
 }
 
-// Writes a ring without the points that are close to the last one kept; 16, 2, 1, 12.
+// Writes a ring without the points that are close to the last one kept, and counts those that are kept; 16, 2, 1, 12. The call takes a ring's two lists by
+// themselves, as they are lent.
 pub fn dedup_ring(
     xs: &[f64],
     ys: &[f64],
@@ -38,23 +29,15 @@ pub fn dedup_ring(
 ) -> Result<usize, Refusal>
     ensures { CleanedAs xs.now ys.now out_x.old out_y.old result out_x.new out_y.new }
 {
-    let room = out_x.len();
-    if room != out_y.len() {
+    if out_x.len() != out_y.len() {
         return Err(Refusal::UnequalLists);
     }
     let sound = Ring::checked(xs, ys)?;
-    let mut places = [0usize; 512];
-    let kept = kept_places(sound.ring, &mut places);
-    if kept.len() > room {
-        return Err(Refusal::OutputTooShort);
-    }
-    gather_into(xs, kept, out_x);
-    gather_into(ys, kept, out_y);
-    Ok(kept.len())
+    clean_where_room(sound.ring, out_x, out_y).ok_or(Refusal::OutputTooShort)
 }
 
 // Whether no point of a ring is close to the one before it, and the last is not to the first: cleaning then keeps all of them.
-#[tactic(auto, using(crate::proofs::RingLaws::clean_start, crate::proofs::RingLaws::clean_more, crate::proofs::RingLaws::clean_few, crate::proofs::RingLaws::clean_end))]
+#[tactic(auto, using(crate::proofs::RingLaws::clean_few))]
 pub fn is_clean(ring: Ring<'_>) -> bool
     ensures { result ≡ true → kept ring.entry.xs.now ring.entry.ys.now ≡ elems (length ring.entry.xs.now) (λ i. i) }
 {
@@ -62,15 +45,12 @@ pub fn is_clean(ring: Ring<'_>) -> bool
     if n < 2 {
         return true;
     }
-    for i in 1..n {
-        if is_close(ring.point(i - 1), ring.point(i)) {
-            return false;
-        }
-    }
-    !is_close(ring.point(0), ring.point(n - 1))
+    let apart = (1..n).all(|i| !is_close(ring.point(i - 1), ring.point(i)));
+    apart && !is_close(ring.point(0), ring.point(n - 1))
 }
 
-// The places of the points that are kept, written over the start of `places`.
+// The places of the points that are kept, written over the start of `places`. `drop_close` (levels.rt) says why this is a loop
+// of its own.
 fn kept_places<'a>(ring: Ring<'_>, places: &'a mut [usize; 512]) -> &'a [usize]
     ensures are { result.now ≡ kept ring.entry.xs.now ring.entry.ys.now }
     ensures below { Below (length ring.entry.xs.now) result.now }
@@ -98,6 +78,22 @@ fn kept_places<'a>(ring: Ring<'_>, places: &'a mut [usize; 512]) -> &'a [usize]
     &places[..count]
 }
 
+// Writes the points of a ring that are kept over the start of two lists, and counts them; none where there is no room. It is asked that the lists are equally
+// long: they are written, and a struct of `&mut` lists that keeps the fact cannot be lent on.
+fn clean_where_room(ring: Ring<'_>, out_x: &mut [f64], out_y: &mut [f64]) -> Option<usize>
+    requires { length out_y.old ≡ length out_x.old }
+    ensures { CleanedIn ring.entry.xs.now ring.entry.ys.now out_x.old out_y.old result out_x.new out_y.new }
+{
+    let mut places = [0usize; 512];
+    let kept = kept_places(ring, &mut places);
+    if kept.len() > out_x.len() {
+        return None;
+    }
+    gather_into(ring.xs, kept, out_x);
+    gather_into(ring.ys, kept, out_y);
+    Some(kept.len())
+}
+
 // Writes the points of a ring that are kept over the start of two lists: the ring of these. A ring has at most 512 places, and there is no heap.
 pub fn clean_into<'a>(
     ring: Ring<'_>,
@@ -107,11 +103,9 @@ pub fn clean_into<'a>(
     ensures kept_x { result.xs.now ≡ gathered ring.entry.xs.now (kept ring.entry.xs.now ring.entry.ys.now) }
     ensures kept_y { result.ys.now ≡ gathered ring.entry.ys.now (kept ring.entry.xs.now ring.entry.ys.now) }
 {
-    let mut places = [0usize; 512];
-    let kept = kept_places(ring, &mut places);
-    gather_into(ring.xs, kept, out_x);
-    gather_into(ring.ys, kept, out_y);
-    let n = kept.len();
+    let Some(n) = clean_where_room(ring, out_x, out_y) else {
+        unreachable!()
+    };
     let xs = &out_x[..n];
     let ys = &out_y[..n];
     Ring { xs, ys }

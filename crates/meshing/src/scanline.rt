@@ -1,4 +1,5 @@
-// The scanline decomposition of a ring into quads, each two prisms. One pass decides, a second one writes.
+// The scanline decomposition of a ring into quads, each two prisms. One pass decides, a second one writes. The functions take the region, the counts and the
+// lists one by one, and ask for `Grows`: a struct of counts and `&mut` lists that keeps it cannot be lent on.
 ghost use Rattle.std.specs.Prelude.{◌≡◌, true, ◌+◌, ◌*◌, ◌≤◌, length, take};
 ghost use Rattle.lists.specs.Answer.{given, map_answer};
 ghost use Rattle.lists.specs.Lists.{put, runs, joined};
@@ -11,9 +12,11 @@ ghost use Rattle.meshing.specs.Scanline as spec;
 
 use crate::crossings::cross;
 use crate::levels::{Band, level_list};
-use crate::quads::{Tally, tally_quads, write_quads};
+use crate::quads::{Edges, Tally, tally_quads, write_quads};
 use crate::writes::{fill, write_eight};
-use openrdson_core::{Counts, Heights, MeshLists, Refusal, SoundRing, UNUSED, has_room};
+use openrdson_core::{
+    Counts, ElementType, Heights, MeshLists, Refusal, SoundRing, UNUSED, has_room,
+};
 
 // A ring from one height to another.
 #[derive(Clone, Copy)]
@@ -39,8 +42,8 @@ fn middle(band: Band) -> f64
 }
 
 // Tallies the quads of the bands; none if an edge crosses a band's middle out of range. `edges` and `at` are room to work in.
-// `write_bands` walks alike: a walk that takes what is done with a band would also have to carry, from band to band, what that asks: how many quads
-// there are so far, and room for them.
+// `write_bands` has the same loop: one that takes as a closure what is done with a band would also have to carry, from band to band, what that asks: how
+// many quads there are so far, and room for them.
 fn tally_bands(bands: Bands<'_>, edges: &mut [usize], at: &mut [f64]) -> Option<Tally>
     requires { spec.Worked bands.ring.ring.ys.now (length edges.old) (length at.old) }
     ensures { spec.BandsAs bands.entry.ring.ring.xs.now bands.entry.ring.ring.ys.now (bands_of bands.entry.levels.now) result }
@@ -60,7 +63,8 @@ fn tally_bands(bands: Bands<'_>, edges: &mut [usize], at: &mut [f64]) -> Option<
         };
         let y = middle(band);
         count = cross(ring, below, y, edges, at, count)?;
-        t = tally_quads(ring, band, &edges[..count], t);
+        let numbers = &edges[..count];
+        t = tally_quads(Edges { ring, numbers }, band, t);
         below = y;
     }
     Some(t)
@@ -88,7 +92,8 @@ fn scan_ring(bands: Bands<'_>, edges: &mut [usize], at: &mut [f64]) -> Result<us
     Ok(t.quads)
 }
 
-// Writes the nodes' x and y of the quads of the bands, from place p on. For callers that have decided, and found room.
+// Writes the nodes' x and y of the quads of the bands, from place p on. For callers that have found the crossings in range, and room. It is asked that nx and
+// ny are equally long, as in `write_quads`: they are written, and a struct of `&mut` lists that keeps the fact cannot be lent on.
 fn write_bands(
     bands: Bands<'_>,
     edges: &mut [usize],
@@ -115,7 +120,8 @@ fn write_bands(
         };
         let y = middle(band);
         count = cross(ring, below, y, edges, at, count).unwrap();
-        place = write_quads(ring, band, &edges[..count], nx, ny, place);
+        let numbers = &edges[..count];
+        place = write_quads(Edges { ring, numbers }, band, nx, ny, place);
         below = y;
     }
 }
@@ -162,7 +168,7 @@ fn write_pair(places: &mut [u32], at: usize, a: u32)
 }
 
 // Writes n quads that have been decided, where there is room; 12.
-#[tactic(auto, using(crate::proofs::ScanlineLaws::decided, crate::proofs::ScanlineLaws::quads_few, crate::proofs::ScanlineLaws::bands_fine, crate::proofs::ScanlineLaws::quad_room, crate::proofs::ScanlineLaws::sound_ring))]
+#[tactic(auto, using(crate::proofs::ScanlineLaws::decided, crate::proofs::ScanlineLaws::quads_few, crate::proofs::ScanlineLaws::bands_fine, crate::proofs::Rooms::room_in, crate::proofs::ScanlineLaws::sound_ring))]
 fn write_scanline(
     bands: Bands<'_>,
     heights: Heights,
@@ -189,7 +195,8 @@ fn write_scanline(
     let ys = &mut *lists.ys;
     write_bands(bands, edges, at, xs, ys, counts.nodes);
     write_heights(lists.zs, counts.nodes, n, heights);
-    fill(lists.kinds, counts.elements, 2 * n, 2);
+    let prism = u8::from(ElementType::Prism);
+    fill(lists.kinds, counts.elements, 2 * n, prism);
     write_pairs(lists.places, 8 * counts.elements, n, counts.nodes);
     fill(lists.regions, counts.elements, 2 * n, region);
     Ok(Counts {
@@ -210,13 +217,13 @@ fn mesh_levels<const N: usize>(
     ensures mesh { Appends (spec.scanned counts.nodes extrusion.entry.ring extrusion.entry.heights) counts region (held lists.old) (held lists.new) result }
     ensures same { Same lists.old lists.new }
 {
-    let mut levels = [0.0; N];
+    let mut heights = [0.0; N];
     let mut edges = [0usize; N];
     let mut at = [0.0; N];
-    let m = level_list(extrusion.ring.ring.ys, &mut levels);
+    let levels = level_list(extrusion.ring.ring.ys, &mut heights);
     let bands = Bands {
         ring: extrusion.ring,
-        levels: &levels[..m],
+        levels,
     };
     let n = scan_ring(bands, &mut edges, &mut at)?;
     write_scanline(
@@ -232,7 +239,7 @@ fn mesh_levels<const N: usize>(
 }
 
 // Meshes a ring, cleaned once, by the scanline: 3, 9, 1, 11, 1, 12; with room to work in for a small ring or a large one. A size chooses a const
-// parameter here and in `mesh_again`, `clip_ring`: a function that takes the step for either size would take two closures.
+// parameter here, in `mesh_again` and in `clip_ring`: a function that takes the step for either size would take two closures.
 pub fn mesh_scanline(
     extrusion: Extrusion<'_>,
     region: u32,

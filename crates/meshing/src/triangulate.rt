@@ -14,9 +14,9 @@ use crate::ring::clean_into;
 use crate::writes::copy;
 use openrdson_core::{Refusal, Ring, SoundRing, polygon_signed_area};
 
-// How many vertices a cleaned ring has, and how many triangles.
+// How many vertices a cleaned ring has, and how many triangles it is cut into.
 #[derive(Clone, Copy, Debug, PartialEq, Eq)]
-pub struct Triangulation {
+pub struct PolygonCounts {
     pub vertices: usize,
     pub triangles: usize,
 }
@@ -28,7 +28,8 @@ pub struct Corners<'a> {
     ghost whole: { corners_of (triples places.now) ≡ places.now },
 }
 
-// Fills a list with the walk round as many vertices: 0 to n - 1, reversed unless forward, which is a value of the rule as n is.
+// Fills a list with the walk round as many vertices: 0 to n - 1, reversed unless forward. `forward` is the definition's own argument: two functions would be
+// no plainer.
 #[tactic(auto, using(lists::proofs::Fills::no_elems, lists::proofs::Fills::one_elem, lists::proofs::Fills::all_elems))]
 fn fill_walk(walk: &mut [usize], forward: bool)
     ensures { walk.new ≡ walk_of forward (length walk.old) }
@@ -41,14 +42,15 @@ fn fill_walk(walk: &mut [usize], forward: bool)
     }
 }
 
-// Writes a cleaned ring and the corners of its triangles, where there is room; 12.
+// Writes a cleaned ring and the corners of its triangles, where there is room; 12. It is asked that out_x and out_y are equally long, here and below: they
+// are written, and a struct of `&mut` lists that keeps the fact cannot be lent on.
 fn write_cutting(
     ring: Ring<'_>,
     corners: Corners<'_>,
     out_x: &mut [f64],
     out_y: &mut [f64],
     out_corners: &mut [u32],
-) -> Result<Triangulation, Refusal>
+) -> Result<PolygonCounts, Refusal>
     requires { length out_x.old ≡ length out_y.old }
     ensures { spec.Leaves (spec.fitted (length out_x.old) (length out_corners.old) (elems (length ring.entry.xs.now) (λ i. i)) (triples corners.entry.places.now)) ring.entry.xs.now ring.entry.ys.now out_x.old out_y.old out_corners.old result out_x.new out_y.new out_corners.new }
 {
@@ -61,7 +63,7 @@ fn write_cutting(
     copy(ring.xs, out_x, 0);
     copy(ring.ys, out_y, 0);
     copy(corners.places, out_corners, 0);
-    Ok(Triangulation {
+    Ok(PolygonCounts {
         vertices: ring.xs.len(),
         triangles: corners.places.len() / 3,
     })
@@ -86,7 +88,8 @@ fn clip_around<'a, const N: usize>(
     Ok(Corners { places })
 }
 
-// Clips a ring of three points or more, walked round in the direction of its area; 4. A sound ring has an area.
+// Clips a ring of three points or more, walked round in the direction of its area; 4. The area of a sound ring is not refused. The walk has room for a small
+// ring or for a large one: a size chooses a const parameter, as in `mesh_scanline`.
 #[tactic(auto, using(crate::proofs::TriangulateLaws::sound_fault))]
 pub fn clip_ring<'a>(sound: SoundRing<'_>, room: &'a mut [u32]) -> Result<Corners<'a>, Refusal>
     requires { (3 ≤ length sound.ring.xs.now) × ((length sound.ring.xs.now - 2) * 3 ≤ length room.old) }
@@ -101,14 +104,14 @@ pub fn clip_ring<'a>(sound: SoundRing<'_>, room: &'a mut [u32]) -> Result<Corner
     clip_around::<512>(ring, forward, room)
 }
 
-// With lists of points equally long: 3, 4, 12, or the ring and its triangles are written.
+// Triangulates a sound ring into lists of points that are equally long; 3, 4, 12.
 #[tactic(auto, using(crate::proofs::TriangulateLaws::kept_sound))]
 fn triangulate_sound(
     sound: SoundRing<'_>,
     out_x: &mut [f64],
     out_y: &mut [f64],
     out_corners: &mut [u32],
-) -> Result<Triangulation, Refusal>
+) -> Result<PolygonCounts, Refusal>
     requires { length out_x.old ≡ length out_y.old }
     ensures { spec.Leaves (spec.cutting sound.entry.ring.xs.now sound.entry.ring.ys.now (length out_x.old) (length out_corners.old) (kept sound.entry.ring.xs.now sound.entry.ring.ys.now)) sound.entry.ring.xs.now sound.entry.ring.ys.now out_x.old out_y.old out_corners.old result out_x.new out_y.new out_corners.new }
 {
@@ -123,16 +126,17 @@ fn triangulate_sound(
     write_cutting(ring, corners, out_x, out_y, out_corners)
 }
 
-// Triangulates a ring: writes it cleaned, and the corners of its triangles, three after three, in cutting order; 16, 2, 1, 3, 4, 12.
+// Triangulates a ring: writes it cleaned, and the corners of its triangles, three after three, in cutting order; 16, 2, 1, 3, 4, 12. The call takes a ring's
+// two lists by themselves, as they are lent.
 pub fn triangulate_polygon(
     xs: &[f64],
     ys: &[f64],
     out_x: &mut [f64],
     out_y: &mut [f64],
     out_corners: &mut [u32],
-) -> Result<Triangulation, Refusal>
+) -> Result<PolygonCounts, Refusal>
     ensures leaves { spec.Leaves (spec.triangulate_polygon xs.now ys.now (length out_x.old) (length out_y.old) (length out_corners.old)) xs.now ys.now out_x.old out_y.old out_corners.old result out_x.new out_y.new out_corners.new }
-    ensures demand { spec.Demand3 result out_x.new out_y.new out_corners.new }
+    ensures triangulation { spec.TriangulationLeft result out_x.new out_y.new out_corners.new }
 {
     if out_x.len() != out_y.len() {
         return Err(Refusal::UnequalLists);

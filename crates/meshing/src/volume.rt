@@ -1,5 +1,8 @@
 // The volume of a mesh: a prism's by its first triangle and its mean height, another element's by its bounding box.
-ghost use Rattle.std.specs.Prelude.{◌≡◌, ℕ, ◌<◌, length, get_or};
+ghost use Rattle.std.specs.Prelude.{◌≡◌, true, false, length};
+ghost use Rattle.std.specs.Float.{inf};
+ghost use Rattle.binary64.specs.Numbers.{◌⊖◌};
+ghost use Rattle.openrdson_core.specs.Bounds.{lesser, greater};
 ghost use Rattle.openrdson_core.specs.Answers.{answer};
 ghost use Rattle.openrdson_core.specs.Mesh.{kind_number, read};
 ghost use Rattle.meshing.specs.Volumes as spec;
@@ -73,20 +76,57 @@ fn prism_volume(prism: SoundElement<'_>) -> f64
     triangle_area(a, b, c) * mean_height(d.z - a.z, e.z - b.z, f.z - c.z)
 }
 
-// How far the nodes at these places reach along one axis.
-fn reach(l: &[f64], places: &[u32]) -> f64
-    requires { (k : ℕ) → k < length places.now → get_or places.now k 0 < length l.now }
-    ensures { result ≡ spec.reach l.now (length places.now) places.now }
-{
-    let mut least = binary64::infinity();
-    let mut most = binary64::minus_infinity();
-    for k in 0..places.len() {
-        let v = l[places[k] as usize];
-        // Not std's min and max: of two zeros they take the other one.
-        least = if v < least { v } else { least };
-        most = if most < v { v } else { most };
+// How far numbers reach: the least and the greatest so far. One of each for every axis goes through one loop over an element's nodes, which takes less than a
+// loop for every axis.
+#[derive(Clone, Copy)]
+struct Reach {
+    least: f64,
+    most: f64,
+}
+
+impl Reach {
+    // Of no number.
+    fn new() -> Self
+        ensures { (result.least ≡ inf false) × (result.most ≡ inf true) }
+    {
+        Reach {
+            least: binary64::infinity(),
+            most: binary64::minus_infinity(),
+        }
     }
-    most - least
+
+    // With one more number. Not std's min and max: of two zeros they may take the other one. The least is written out: binary64 has `larger` alone.
+    fn with(self, v: f64) -> Self
+        ensures { (result.least ≡ lesser v self.least) × (result.most ≡ greater v self.most) }
+    {
+        Reach {
+            least: if v < self.least { v } else { self.least },
+            most: binary64::larger(self.most, v),
+        }
+    }
+
+    // From the least to the greatest.
+    fn length(self) -> f64
+        ensures { result ≡ self.most ⊖ self.least }
+    {
+        self.most - self.least
+    }
+}
+
+// The volume of the box round the nodes of an element.
+fn box_volume(element: SoundElement<'_>) -> f64
+    ensures { result ≡ spec.box_volume element.entry.nodes.xs.now element.entry.nodes.ys.now element.entry.nodes.zs.now (length element.entry.used.now) element.entry.used.now }
+{
+    let mut x = Reach::new();
+    let mut y = Reach::new();
+    let mut z = Reach::new();
+    for k in 0..element.used.len() {
+        let node = element.node(k);
+        x = x.with(node.x);
+        y = y.with(node.y);
+        z = z.with(node.z);
+    }
+    x.length() * y.length() * z.length()
 }
 
 // The volume of an element.
@@ -94,11 +134,9 @@ fn reach(l: &[f64], places: &[u32]) -> f64
 fn element_volume(element: SoundElement<'_>) -> f64
     ensures { result ≡ spec.element_volume element.entry.nodes.xs.now element.entry.nodes.ys.now element.entry.nodes.zs.now (kind_number element.entry.kind) element.entry.used.now }
 {
-    let nodes = element.nodes;
-    let used = element.used;
     match element.kind {
         ElementType::Prism => prism_volume(element),
-        _ => reach(nodes.xs, used) * reach(nodes.ys, used) * reach(nodes.zs, used),
+        _ => box_volume(element),
     }
 }
 

@@ -37,7 +37,7 @@ impl Keyed<'_> {
         }
     }
 
-    // Whether node i has this key. Not by `key`: most nodes differ in x, and the others are not worked out then.
+    // Whether node i has this key. Not by `key`: most nodes differ in x, and then y and z are not worked out.
     fn has_key(self, i: usize, key: Key) -> bool
         requires { i < length self.nodes.xs.now }
         ensures { result ≡ spec.same_key (spec.key_at self.entry.tolerance self.entry.nodes.xs.now self.entry.nodes.ys.now self.entry.nodes.zs.now i) key }
@@ -52,12 +52,7 @@ impl Keyed<'_> {
     fn find(self, key: Key) -> Option<usize>
         ensures { result ≡ first (λ j. spec.same_key (spec.key_at self.entry.tolerance self.entry.nodes.xs.now self.entry.nodes.ys.now self.entry.nodes.zs.now j) key) (length self.entry.nodes.xs.now) 0 }
     {
-        for j in 0..self.nodes.xs.len() {
-            if self.has_key(j, key) {
-                return Some(j);
-            }
-        }
-        None
+        (0..self.nodes.xs.len()).find(|j| self.has_key(*j, key))
     }
 
     // Whether node i is the first with its key.
@@ -77,7 +72,9 @@ impl Keyed<'_> {
             .count()
     }
 
-    // Writes the nodes that are kept, and counts them. For callers that have found room for them.
+    // Writes the nodes that are kept over the start of the lists, and counts them. For callers that have found room for them. It is asked that the lists are
+    // equally long, and the result is how many are written: a struct of `&mut` lists that keeps either fact cannot be lent on. Not a loop over the filtered
+    // range, as in `count_kept`: its proof would need a law of the nodes that the filter passes over.
     fn write_kept(self, out: &mut MeshLists<'_>) -> usize
         requires { (length (spec.kept self.tolerance self.nodes.xs.now self.nodes.ys.now self.nodes.zs.now) ≤ length out.old.xs.now) × (length out.old.ys.now ≡ length out.old.xs.now) × (length out.old.zs.now ≡ length out.old.xs.now) }
         ensures count { result ≡ length (spec.kept self.entry.tolerance self.entry.nodes.xs.now self.entry.nodes.ys.now self.entry.nodes.zs.now) }
@@ -101,7 +98,7 @@ impl Keyed<'_> {
     }
 
     // What stands in a node place after welding: the new number of its node, looked up among the nodes kept, or what stood there where it is unused.
-    // The nodes kept are the first of `out`.
+    // The nodes kept are the first `kept` of `out`: its places are being written, and a struct of `&mut` lists that keeps how many cannot be lent on.
     fn renumbered(self, place: u32, kept: usize, out: &MeshLists<'_>) -> u32
         requires few { length self.nodes.xs.now ≤ 1048576 }
         requires within { (kept ≤ length out.now.xs.now) × (kept ≤ length out.now.ys.now) × (kept ≤ length out.now.zs.now) }
@@ -123,7 +120,7 @@ impl Keyed<'_> {
         number as u32
     }
 
-    // Writes node places, renumbered. For callers that have found room for them.
+    // Writes node places, renumbered. For callers that have found room for them. `kept` is that of `renumbered`.
     // `renumbered` is lent the lists at each turn: no proof is generated for a function that writes one field of them while others are lent.
     fn write_places(self, places: &[u32], kept: usize, out: &mut MeshLists<'_>)
         requires few { length self.nodes.xs.now ≤ 1048576 }
@@ -178,7 +175,7 @@ fn weld_checked(
     })
 }
 
-// Writes a mesh with the nodes of one key made one, into lists of its own; 16, 2, 1, 15, 13, 12.
+// Writes the mesh with one node for each key, the first that has it, into other lists; 16, 2, 1, 15, 13, 12.
 pub fn weld_nodes(
     mesh: Mesh<'_>,
     tolerance: f64,

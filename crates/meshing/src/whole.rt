@@ -7,7 +7,7 @@ ghost use Rattle.openrdson_core.specs.Mesh.{read, known, kind_of, node_count, us
 ghost use Rattle.meshing.specs.Volumes.{node_at};
 ghost use Rattle.meshing.specs.Whole as spec;
 
-use openrdson_core::{ElementType, Mesh, Point3, Refusal};
+use openrdson_core::{ElementType, Mesh, NodeNumber, Point3, Refusal};
 
 // Coordinates of nodes in three equally long lists.
 #[derive(Clone, Copy)]
@@ -19,27 +19,24 @@ pub struct Nodes<'a> {
 }
 
 impl Nodes<'_> {
-    // The node with number i.
-    pub fn node(self, i: usize) -> Point3
-        requires { i < length self.xs.now }
-        ensures { result ≡ node_at self.entry.xs.now self.entry.ys.now self.entry.zs.now i }
+    // The node with this number.
+    pub fn node(self, number: NodeNumber) -> Point3
+        requires { number.0 < length self.xs.now }
+        ensures { result ≡ node_at self.entry.xs.now self.entry.ys.now self.entry.zs.now number.0 }
     {
+        let i = number.0 as usize;
         Point3::new(self.xs[i], self.ys[i], self.zs[i])
     }
 
     // Whether every coordinate is finite and at most 2^20 in size.
-    #[tactic(auto, using(lists::proofs::Scans::all_start, lists::proofs::Scans::all_noted), unfolding(crate::specs::Whole::nodes_in))]
     pub fn is_in_range(self) -> bool
         ensures { result ≡ spec.nodes_in self.entry.xs.now self.entry.ys.now self.entry.zs.now }
     {
-        let mut fine = true;
-        for i in 0..self.xs.len() {
-            fine = fine
-                & (binary64::coordinate_in_range(self.xs[i])
-                    & binary64::coordinate_in_range(self.ys[i])
-                    & binary64::coordinate_in_range(self.zs[i]));
-        }
-        fine
+        (0..self.xs.len()).all(|i| {
+            binary64::coordinate_in_range(self.xs[i])
+                && binary64::coordinate_in_range(self.ys[i])
+                && binary64::coordinate_in_range(self.zs[i])
+        })
     }
 }
 
@@ -88,6 +85,7 @@ impl<'a> EvenMesh<'a> {
         Ok(EvenMesh { lists })
     }
 
+    // Its nodes.
     pub fn nodes(self) -> Nodes<'a>
         ensures { (result.xs.now ≡ self.entry.lists.xs.now) × (result.ys.now ≡ self.entry.lists.ys.now) × (result.zs.now ≡ self.entry.lists.zs.now) }
     {
@@ -96,7 +94,6 @@ impl<'a> EvenMesh<'a> {
     }
 
     // The mesh, its coordinates in range and its elements sound; 1, 15, 13.
-
     pub fn checked(self) -> Result<SoundMesh<'a>, Refusal>
         ensures fault { map_answer (λ _. tt {0}) (answer result) ≡ spec.contents_fault (read self.entry.lists) }
         ensures lists { IfOk result (λ m. read m.mesh.lists ≡ read self.entry.lists) }
@@ -155,6 +152,6 @@ impl SoundElement<'_> {
         requires { k < length self.used.now }
         ensures { result ≡ node_at self.entry.nodes.xs.now self.entry.nodes.ys.now self.entry.nodes.zs.now (get_or self.entry.used.now k 0) }
     {
-        self.nodes.node(self.used[k] as usize)
+        self.nodes.node(NodeNumber(self.used[k]))
     }
 }

@@ -11,7 +11,7 @@ pub fn copy<T: Copy>(l: &[T], out: &mut [T], at: usize)
     out[at..at + l.len()].copy_from_slice(l);
 }
 
-// Writes a value n times from place `at` on.
+// Writes a value n times from place `at` on. Not by std's `fill`: it writes clones, and `Copy` does not say that a `clone` cannot fail or is the same value.
 #[tactic(auto, using(lists::proofs::Fills::no_elems, lists::proofs::Fills::one_elem, lists::proofs::Fills::all_elems))]
 pub fn fill<T: Copy>(out: &mut [T], at: usize, n: usize, value: T)
     requires { at + n ≤ length out.old }

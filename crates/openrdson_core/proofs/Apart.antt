@@ -2,135 +2,27 @@
 use mathlib.Core.Path.{◌≡◌, refl, sym, ap, ◌∙◌, subst}
 use mathlib.Core.Bool.{Bool, true, false, not, ◌&&◌, ◌||◌, cond}
 use mathlib.Core.List.{List}
-use mathlib.Core.Logic.{◌⊎◌, ⊎_elim}
-use Prim.Native.Nat.{ℕ, zero, suc, ◌<◌, ◌≤◌}
-use native.Mathlib.Nat.{eq-or-lt_of_le, le_of_suc-le-suc}
+use Prim.Native.Nat.{ℕ, ◌<◌, ◌≤◌}
 use native.Mathlib.Omega.{arith}
 use lib.ListN.{length}
 use lib.IntN.{pos}
-use lib.Ieee.{Float, inf, fin, neg, lt, le}
+use lib.Ieee.{Float, inf, fin, binary64, of_bits, neg, lt, le}
 use Rattle.lists.specs.Lists.{fold_below}
 use Rattle.lists.proofs.Scans.{and_false, all_at, all_fails, all_from}
 use Rattle.binary64.specs.Numbers.{◌⊕◌, ◌⊖◌, ◌⊗◌, at, at_most, abs, larger}
 use Rattle.binary64.specs.Constants.{zero64, tolerance9}
 use Rattle.binary64.proofs.Sizes.{at_most_is}
-use Rattle.binary64.proofs.Order.{never, both, first, second, le_trans, lt_le, not_lt_le, not_le_lt, le_total, le_refl_left, le_refl_right, le_infinity, infinity_le}
-use Rattle.binary64.proofs.Differences.{Limit, farther_below, farther_above, abs_swap, difference_most, within_high, within_low, within_both, product_mono, tolerance_above}
+use Rattle.binary64.proofs.Order.{never, both, first, second, le_trans, not_le_lt, le_total, le_refl_left, le_refl_right}
+use Rattle.binary64.proofs.Differences.{Limit, coordinate_limit, within_above, within_under, difference_above, difference_below, farther_below, farther_above, abs_swap, difference_most, within_high, within_low, within_both, product_mono, tolerance_above}
 use Rattle.openrdson_core.specs.Points.{point_at, point_in, points_in}
-use Rattle.openrdson_core.specs.Bounds.{lesser, greater, extend_point, empty_bbox, is_empty, width, height, bounds_of}
+use Rattle.openrdson_core.specs.Bounds.{lesser, greater, is_empty, width, height, bounds_of}
 use Rattle.openrdson_core.specs.Rectangle.{on_corner, on_some_corner, all_corners_taken, fills_corners, fills_bounds, is_rectangle}
 use Rattle.openrdson_core.specs.Apart.{points_within, are_apart, tolerance_within, three_apart}
+use Rattle.openrdson_core.specs.declared.points.Point.{Point}
 use Rattle.openrdson_core.specs.declared.bounds.Bbox.{Bbox}
+use Rattle.openrdson_core.proofs.Rings.{range_is}
+use Rattle.openrdson_core.proofs.BoundLaws.{either, lowest_under, lowest_above, highest_under, highest_above, min_x_is, min_y_is, max_x_is, max_y_is}
 use Rattle.openrdson_core.proofs.Corners.{four_corners}
-
--- ---- the lower of two numbers, and the higher
-lesser_first : (x m : Float) → le x x ≡ true → le m m ≡ true → le (lesser x m) x ≡ true
-lesser_first x m p q = go (lt x m) refl
-  where
-    go : (b : Bool) → lt x m ≡ b → le (cond b x m) x ≡ true
-    go true h = p
-    go false h = not_lt_le x m p q h
-
-lesser_second : (x m : Float) → le m m ≡ true → le (lesser x m) m ≡ true
-lesser_second x m q = go (lt x m) refl
-  where
-    go : (b : Bool) → lt x m ≡ b → le (cond b x m) m ≡ true
-    go true h = lt_le x m h
-    go false h = q
-
-greater_first : (x m : Float) → le x x ≡ true → le m m ≡ true → le x (greater x m) ≡ true
-greater_first x m p q = go (lt m x) refl
-  where
-    go : (b : Bool) → lt m x ≡ b → le x (cond b x m) ≡ true
-    go true h = p
-    go false h = not_lt_le m x q p h
-
-greater_second : (x m : Float) → le m m ≡ true → le m (greater x m) ≡ true
-greater_second x m q = go (lt m x) refl
-  where
-    go : (b : Bool) → lt m x ≡ b → le m (cond b x m) ≡ true
-    go true h = lt_le m x h
-    go false h = q
-
--- what holds of both holds of the one that is taken
-either : (P : Float → Type 0) (b : Bool) (x y : Float) → P x → P y → P (cond b x y)
-either P true x y p q = p
-either P false x y p q = q
-
--- ---- the lowest and the highest of numbers between lo and hi
-upto : {i n : ℕ} → i < suc n → (i ≡ n) ⊎ (i < n)
-upto h = eq-or-lt_of_le (le_of_suc-le-suc h)
-
-module _ (f : ℕ → Float) (lo hi : Float) where
-  abbrev lowest : ℕ → Float
-  lowest n = fold_below n (λ m i. lesser (f i) m) (inf false)
-
-  abbrev highest : ℕ → Float
-  highest n = fold_below n (λ m i. greater (f i) m) (inf true)
-
-  abbrev Between : ℕ → Type 0
-  Between n = (i : ℕ) → i < n → (le lo (f i) ≡ true) × (le (f i) hi ≡ true)
-
-  fewer : (n : ℕ) → Between (suc n) → Between n
-  fewer n each i l = each i (omega arith)
-
-  last : (n : ℕ) → Between (suc n) → (le lo (f n) ≡ true) × (le (f n) hi ≡ true)
-  last n each = each n (omega arith)
-
-  lowest_above : le lo lo ≡ true → (n : ℕ) → Between n → le lo (lowest n) ≡ true
-  unfolding fold_below
-  lowest_above L zero each = le_infinity lo L
-  lowest_above L (suc n) each = either (λ z. le lo z ≡ true) (lt (f n) (lowest n)) (f n) (lowest n) (last n each).0 (lowest_above L n (fewer n each))
-
-  highest_under : le hi hi ≡ true → (n : ℕ) → Between n → le (highest n) hi ≡ true
-  unfolding fold_below
-  highest_under H zero each = infinity_le hi H
-  highest_under H (suc n) each = either (λ z. le z hi ≡ true) (lt (highest n) (f n)) (f n) (highest n) (last n each).1 (highest_under H n (fewer n each))
-
-  lowest_under : le lo lo ≡ true → (n : ℕ) → Between n → (i : ℕ) → i < n → le (lowest n) (f i) ≡ true
-  unfolding fold_below
-  lowest_under L zero each i l = absurd (omega arith)
-  lowest_under L (suc n) each i l =
-      let m = le_refl_right lo (lowest n) (lowest_above L n (fewer n each)) in
-      ⊎_elim
-      (λ e. subst (λ (k : ℕ). le (lesser (f n) (lowest n)) (f k) ≡ true) (sym e) (lesser_first (f n) (lowest n) (le_refl_right lo (f n) (last n each).0) m))
-      (λ k. le_trans (lesser (f n) (lowest n)) (lowest n) (f i) (lesser_second (f n) (lowest n) m) (lowest_under L n (fewer n each) i k))
-      (upto l)
-
-  highest_above : le hi hi ≡ true → (n : ℕ) → Between n → (i : ℕ) → i < n → le (f i) (highest n) ≡ true
-  unfolding fold_below
-  highest_above H zero each i l = absurd (omega arith)
-  highest_above H (suc n) each i l =
-      let m = le_refl_left (highest n) hi (highest_under H n (fewer n each)) in
-      ⊎_elim
-      (λ e. subst (λ (k : ℕ). le (f k) (greater (f n) (highest n)) ≡ true) (sym e) (greater_first (f n) (highest n) (le_refl_right lo (f n) (last n each).0) m))
-      (λ k. le_trans (f i) (highest n) (greater (f n) (highest n)) (highest_above H n (fewer n each) i k) (greater_second (f n) (highest n) m))
-      (upto l)
-
--- ---- the bounds of points, a side at a time
-module _ (xs ys : List Float) where
-  abbrev box : ℕ → Bbox
-  box n = fold_below n (λ b i. extend_point b (point_at xs ys i)) empty_bbox
-
-  min_x_is : (n : ℕ) → (box n).min_x ≡ fold_below n (λ m i. lesser (at xs i) m) (inf false)
-  unfolding fold_below
-  min_x_is zero = refl
-  min_x_is (suc n) = ap (lesser (at xs n)) (min_x_is n)
-
-  min_y_is : (n : ℕ) → (box n).min_y ≡ fold_below n (λ m i. lesser (at ys i) m) (inf false)
-  unfolding fold_below
-  min_y_is zero = refl
-  min_y_is (suc n) = ap (lesser (at ys n)) (min_y_is n)
-
-  max_x_is : (n : ℕ) → (box n).max_x ≡ fold_below n (λ m i. greater (at xs i) m) (inf true)
-  unfolding fold_below
-  max_x_is zero = refl
-  max_x_is (suc n) = ap (greater (at xs n)) (max_x_is n)
-
-  max_y_is : (n : ℕ) → (box n).max_y ≡ fold_below n (λ m i. greater (at ys i) m) (inf true)
-  unfolding fold_below
-  max_y_is zero = refl
-  max_y_is (suc n) = ap (greater (at ys n)) (max_y_is n)
 
 -- ---- numbers f 0, f 1, .. of at most the size l, between two of them that bound them
 pub record Side (l : Float) (f : ℕ → Float) (n : ℕ) (low high : Float) : Type 0 where
@@ -172,7 +64,7 @@ past a b e t h g k = go (le b e) refl
     go true q = sym (le_trans a e t (le_trans a b e g q) k) ∙ h
     go false q = refl
 
-in_range : (l x : Float) → Limit l → le (abs x) l ≡ true → at_most 20 x ≡ true
+pub in_range : (l x : Float) → Limit l → le (abs x) l ≡ true → at_most 20 x ≡ true
 in_range l x L h = at_most_is 20 x ∙ le_trans (abs x) l (fin false 1 (pos 20)) h L.small
 
 module _ (l : Float) (L : Limit l) (f : ℕ → Float) (n : ℕ) (low high eps t : Float) (s : Side l f n low high) (under : le eps t ≡ true) where
@@ -235,23 +127,33 @@ parts false true z e = never e
 parts false false true e = never e
 
 -- ---- the ring
+module _ (l : Float) (L : Limit l) (xs ys : List Float) (some : 0 < length xs) (all : points_within l xs ys ≡ true) where
+  within_x : (i : ℕ) → i < length xs → le (abs (at xs i)) l ≡ true
+  within_x i h = first (le (abs (at xs i)) l) (le (abs (at ys i)) l) (all_at (λ i. le (abs (at xs i)) l && le (abs (at ys i)) l) (length xs) all i h)
+
+  within_y : (i : ℕ) → i < length xs → le (abs (at ys i)) l ≡ true
+  within_y i h = second (le (abs (at xs i)) l) (le (abs (at ys i)) l) (all_at (λ i. le (abs (at xs i)) l && le (abs (at ys i)) l) (length xs) all i h)
+
+  pub side_x : Side l (at xs) (length xs) (bounds_of xs ys).min_x (bounds_of xs ys).max_x
+  unfolding bounds_of
+  side_x = rw (min_x_is xs ys (length xs), max_x_is xs ys (length xs)) (side l (at xs) (length xs) some within_x)
+
+  pub side_y : Side l (at ys) (length xs) (bounds_of xs ys).min_y (bounds_of xs ys).max_y
+  unfolding bounds_of
+  side_y = rw (min_y_is xs ys (length xs), max_y_is xs ys (length xs)) (side l (at ys) (length xs) some within_y)
+
 module _ (l : Float) (L : Limit l) (xs ys : List Float) (some : 4 ≤ length xs) (all : points_within l xs ys ≡ true) where
   abbrev b : Bbox
   b = bounds_of xs ys
 
-  x_within : (i : ℕ) → i < length xs → le (abs (at xs i)) l ≡ true
-  x_within i h = first (le (abs (at xs i)) l) (le (abs (at ys i)) l) (all_at (λ i. le (abs (at xs i)) l && le (abs (at ys i)) l) (length xs) all i h)
-
-  y_within : (i : ℕ) → i < length xs → le (abs (at ys i)) l ≡ true
-  y_within i h = second (le (abs (at xs i)) l) (le (abs (at ys i)) l) (all_at (λ i. le (abs (at xs i)) l && le (abs (at ys i)) l) (length xs) all i h)
+  abbrev any : 0 < length xs
+  any = omega arith
 
   x_side : Side l (at xs) (length xs) b.min_x b.max_x
-  unfolding bounds_of
-  x_side = rw (min_x_is xs ys (length xs), max_x_is xs ys (length xs)) (side l (at xs) (length xs) (omega arith) x_within)
+  x_side = side_x l L xs ys any all
 
   y_side : Side l (at ys) (length xs) b.min_y b.max_y
-  unfolding bounds_of
-  y_side = rw (min_y_is xs ys (length xs), max_y_is xs ys (length xs)) (side l (at ys) (length xs) (omega arith) y_within)
+  y_side = side_y l L xs ys any all
 
   width_most : le (width b) (l ⊕ l) ≡ true
   width_most = most_or_zero l L (is_empty b) (b.max_x ⊖ b.min_x) (difference_most l b.max_x b.min_x L.above x_side.high_within x_side.low_within)
@@ -300,7 +202,7 @@ module _ (l : Float) (L : Limit l) (xs ys : List Float) (some : 4 ≤ length xs)
       go false false x y = no_corners (tolerance9 ⊗ larger (width b) (height b)) (tolerance_most l (width b) (height b) L width_most height_most x y) h
 
   points_in_lem : points_in xs ys ≡ true
-  points_in_lem = all_from (λ i. point_in (point_at xs ys i)) (length xs) (λ i h. both (at_most 20 (at xs i)) (at_most 20 (at ys i)) (in_range l (at xs i) L (x_within i h)) (in_range l (at ys i) L (y_within i h)))
+  points_in_lem = all_from (λ i. point_in (point_at xs ys i)) (length xs) (λ i h. both (at_most 20 (at xs i)) (at_most 20 (at ys i)) (in_range l (at xs i) L (within_x l L xs ys any all i h)) (in_range l (at ys i) L (within_y l L xs ys any all i h)))
 
 -- what `is_off_corners` says of a limit
 pub shown : (l : Float) → Limit l → (xs ys : List Float) → 4 ≤ length xs → (three_apart (tolerance_within l) xs ys && points_within l xs ys) ≡ true → (points_in xs ys ≡ true) × (is_rectangle xs ys ≡ false)
@@ -308,3 +210,37 @@ shown l L xs ys some h =
     let three = first (three_apart (tolerance_within l) xs ys) (points_within l xs ys) h in
     let all = second (three_apart (tolerance_within l) xs ys) (points_within l xs ys) h in
     (points_in_lem l L xs ys some all, no_rectangle l L xs ys some all three)
+
+-- ---- a point of a ring lies between the bounds, so that one comparison a side tells whether it is on a corner
+abbrev pub near_corner : Bbox → Float → Point → Bool
+near_corner b eps p = (le (p.x ⊖ b.min_x) eps || le (neg eps) (p.x ⊖ b.max_x)) && (le (p.y ⊖ b.min_y) eps || le (neg eps) (p.y ⊖ b.max_y))
+
+module _ (l : Float) (L : Limit l) (f : ℕ → Float) (n : ℕ) (low high eps : Float) (s : Side l f n low high) (i : ℕ) (h : i < n) where
+  near_low : le (abs (f i ⊖ low)) eps ≡ le (f i ⊖ low) eps
+  near_low = within_above (f i ⊖ low) eps (difference_above 20 (f i) low (in_range l (f i) L (s.within i h)) (in_range l low L s.low_within) (s.low_under i h))
+
+  near_high : le (abs (f i ⊖ high)) eps ≡ le (neg eps) (f i ⊖ high)
+  near_high = within_under (f i ⊖ high) eps (difference_below 20 (f i) high (in_range l (f i) L (s.within i h)) (in_range l high L s.high_within) (s.high_above i h))
+
+near_is : (xs ys : List Float) → points_in xs ys ≡ true → (eps : Float) (i : ℕ) → i < length xs → near_corner (bounds_of xs ys) eps (point_at xs ys i) ≡ on_some_corner (bounds_of xs ys) eps (point_at xs ys i)
+unfolding on_some_corner on_corner
+near_is xs ys fine eps i h =
+    let l = of_bits binary64 0x4130_0000_0000_0000 in
+    let all = range_is xs ys ∙ fine in
+    let b = bounds_of xs ys in
+    let some : 0 < length xs = omega arith in
+    let sx = side_x l coordinate_limit xs ys some all in
+    let sy = side_y l coordinate_limit xs ys some all in
+    let left = near_low l coordinate_limit (at xs) (length xs) b.min_x b.max_x eps sx i h in
+    let right = near_high l coordinate_limit (at xs) (length xs) b.min_x b.max_x eps sx i h in
+    let low = near_low l coordinate_limit (at ys) (length xs) b.min_y b.max_y eps sy i h in
+    let high = near_high l coordinate_limit (at ys) (length xs) b.min_y b.max_y eps sy i h in
+    ap (λ (z : Bool). (z || le (neg eps) (at xs i ⊖ b.max_x)) && (le (at ys i ⊖ b.min_y) eps || le (neg eps) (at ys i ⊖ b.max_y))) (sym left)
+    ∙ ap (λ (z : Bool). (le (abs (at xs i ⊖ b.min_x)) eps || z) && (le (at ys i ⊖ b.min_y) eps || le (neg eps) (at ys i ⊖ b.max_y))) (sym right)
+    ∙ ap (λ (z : Bool). (le (abs (at xs i ⊖ b.min_x)) eps || le (abs (at xs i ⊖ b.max_x)) eps) && (z || le (neg eps) (at ys i ⊖ b.max_y))) (sym low)
+    ∙ ap (λ (z : Bool). (le (abs (at xs i ⊖ b.min_x)) eps || le (abs (at xs i ⊖ b.max_x)) eps) && (le (abs (at ys i ⊖ b.min_y)) eps || z)) (sym high)
+    ∙ four_corners (le (abs (at xs i ⊖ b.min_x)) eps) (le (abs (at xs i ⊖ b.max_x)) eps) (le (abs (at ys i ⊖ b.min_y)) eps) (le (abs (at ys i ⊖ b.max_y)) eps)
+
+-- the same of what has been found to be the bounds
+pub near_at : (xs ys : List Float) (b : Bbox) → points_in xs ys ≡ true → b ≡ bounds_of xs ys → (eps : Float) (i : ℕ) → i < length xs → near_corner b eps (point_at xs ys i) ≡ on_some_corner b eps (point_at xs ys i)
+near_at xs ys b fine is eps i h = subst (λ (z : Bbox). near_corner z eps (point_at xs ys i) ≡ on_some_corner z eps (point_at xs ys i)) (sym is) (near_is xs ys fine eps i h)

@@ -2,7 +2,7 @@
 use mathlib.Core.Path.{◌≡◌, refl, sym, ap, ◌∙◌}
 use mathlib.Core.Bool.{Bool, true, ◌&&◌}
 use mathlib.Core.List.{List}
-use Prim.Native.Nat.{ℕ, ◌+◌, ◌<◌}
+use Prim.Native.Nat.{ℕ, ◌+◌, ◌≤◌, ◌<◌}
 use native.Mathlib.Omega.{arith}
 use lib.ListN.{length}
 use lib.Ieee.{Float}
@@ -38,14 +38,18 @@ module _ (xs ys : List Float) where
     pub sum_closed : (first : Point) → i + 1 ≡ length xs → first ≡ point_at xs ys 0 → sum ⊕ cross here first ≡ shoelace xs ys (length xs)
     sum_closed first l e = edge_more 0 first e (next_last (length xs) i l) ∙ ap (shoelace xs ys) l
 
+    -- on to the neighbour, whichever it is
+    pub sum_next : (j : ℕ) (next : Point) → j ≡ next_of (length xs) i → next ≡ point_at xs ys j → sum ⊕ cross here next ≡ shoelace xs ys (i + 1)
+    sum_next j next e k = edge_more j next k (sym e)
+
   -- eight edges on
-  pub sum_eight : (i : ℕ) {sum : Float} → i + 8 < length xs → sum ≡ shoelace xs ys i
+  pub sum_eight : (i j : ℕ) {sum : Float} → i + 8 ≤ length xs → j ≡ next_of (length xs) (i + 7) → sum ≡ shoelace xs ys i
       → sum ⊕ cross (point_at xs ys i) (point_at xs ys (i + 1)) ⊕ cross (point_at xs ys (i + 1)) (point_at xs ys (i + 2))
       ⊕ cross (point_at xs ys (i + 2)) (point_at xs ys (i + 3)) ⊕ cross (point_at xs ys (i + 3)) (point_at xs ys (i + 4))
       ⊕ cross (point_at xs ys (i + 4)) (point_at xs ys (i + 5)) ⊕ cross (point_at xs ys (i + 5)) (point_at xs ys (i + 6))
-      ⊕ cross (point_at xs ys (i + 6)) (point_at xs ys (i + 7)) ⊕ cross (point_at xs ys (i + 7)) (point_at xs ys (i + 8))
+      ⊕ cross (point_at xs ys (i + 6)) (point_at xs ys (i + 7)) ⊕ cross (point_at xs ys (i + 7)) (point_at xs ys j)
       ≡ shoelace xs ys (i + 8)
-  sum_eight i l t =
+  sum_eight i j l e t =
       let s1 = sum_more i t _ refl (i + 1) _ refl (omega arith) refl in
       let s2 = sum_more (i + 1) s1 _ refl (i + 2) _ (omega arith) (omega arith) refl in
       let s3 = sum_more (i + 2) s2 _ refl (i + 3) _ (omega arith) (omega arith) refl in
@@ -53,7 +57,8 @@ module _ (xs ys : List Float) where
       let s5 = sum_more (i + 4) s4 _ refl (i + 5) _ (omega arith) (omega arith) refl in
       let s6 = sum_more (i + 5) s5 _ refl (i + 6) _ (omega arith) (omega arith) refl in
       let s7 = sum_more (i + 6) s6 _ refl (i + 7) _ (omega arith) (omega arith) refl in
-      sum_more (i + 7) s7 _ refl (i + 8) _ (omega arith) l refl
+      let n : i + 7 + 1 ≡ i + 8 = omega arith in
+      sum_next (i + 7) s7 _ refl j _ e refl ∙ ap (shoelace xs ys) n
 
 -- the loop over the edges: before the edge from point i, `sum` and `fine` are of the edges and points before it
 pub record Summing (xs ys : List Float) (i : ℕ) (sum : Float) (fine : Bool) : Type 0 where

@@ -1,4 +1,5 @@
 -- Laws of the definitions, cited by this crate's proofs and by the crates above.
+pub mod Ranges
 pub mod Rings
 pub mod ByteLaws
 pub mod BlockLaws
@@ -6,6 +7,7 @@ pub mod LayoutLaws
 pub mod Areas
 pub mod SumLaws
 pub mod Corners
+pub mod BoundLaws
 pub mod Apart
 pub mod SolidAnswers
 pub mod Shapes

@@ -2,7 +2,7 @@
 use mathlib.Core.Path.{◌≡◌, refl, sym, ap, ◌∙◌}
 use mathlib.Core.Bool.{Bool, true, false, ◌&&◌, ◌||◌}
 use mathlib.Core.List.{List}
-use Rattle.std.specs.Prelude.{Option, Some, None, option_map, unwrap_or}
+use Rattle.std.specs.Prelude.{Option, Some, None, option_map}
 use Prim.Native.Nat.{ℕ, ◌+◌, ◌-◌, ◌*◌, ◌/◌, ◌%◌, ◌<◌, ◌≤◌}
 use native.Mathlib.Omega.{arith}
 use lib.Dec.{eqb, leb, ltb}
@@ -14,7 +14,7 @@ use borrow.Author.Tests.{eq-eqb, ne_eqb, eqb-true, lt-ltb, le-ltb, ltb-true, leb
 use Rattle.lists.specs.Lists.{all_below}
 use Rattle.lists.proofs.Parts.{part_at}
 use Rattle.lists.proofs.Scans.{both, all_from, all_at, all_same}
-use Rattle.openrdson_core.specs.Mesh.{Mesh, unused, kind_number, node_count, kind_of, parallel_lengths, parallel, within_lengths, within, fits, known, used_places, rest_unused, first_below, sound_element, valid_element, kind_at, places_of, used_of, kind_ok, unused_ok, used_below, element_ok, well_formed}
+use Rattle.openrdson_core.specs.Mesh.{Mesh, unused, kind_number, node_count, kind_of, parallel_lengths, parallel, within_lengths, within, fits, known, used_places, rest_unused, first_below, sound_element, inside_element, valid_element, kind_at, places_of, used_of, kind_ok, unused_ok, used_below, element_ok, well_formed}
 use Rattle.openrdson_core.specs.declared.mesh.ElementType.{ElementType}
 use Rattle.openrdson_core.specs.declared.mesh.ElementType.TheVariants.{Tet, Hex, Prism, Pyramid}
 use Rattle.openrdson_core.specs.declared.mesh.Counts.{Counts}
@@ -149,18 +149,20 @@ first_are n nodes places h =
     ap (λ (k : ℕ). all_below k (λ i. ltb (get_or (take n places) i 0) nodes)) (length-take-le n places h)
     ∙ all_same (λ i. ltb (get_or (take n places) i 0) nodes) (is_below_at nodes places) n (λ i l. ap (λ (p : ℕ). ltb p nodes) (get_or-take n places i 0 l))
 
--- how many places a kind uses, as a program tells it
-pub used_is : (o : Option ElementType) → unwrap_or (option_map node_count o) 0 ≡ used_places o
-used_is (Some t) = refl
-used_is None = refl
+-- an element of a kind is sound where the places past those that the kind uses are unused, and inside where those that it uses are below the number of nodes
+module _ (k : ℕ) (places : List ℕ) where
+  pub sound_by : (t : ElementType) {r : Bool} → kind_of k ≡ Some t → r ≡ rest_unused (node_count t) places → r ≡ sound_element k places
+  sound_by t e is = is ∙ sym (ap (λ (o : Option ElementType). known o && rest_unused (used_places o) places) e)
 
--- an element of a kind that uses n places is sound where the places from n on are unused
-pub sound_is : (k n : ℕ) (places : List ℕ) → Some n ≡ option_map node_count (kind_of k) → sound_element k places ≡ rest_unused n places
-sound_is k n places = of (kind_of k)
-  where
-    of : (o : Option ElementType) → Some n ≡ option_map node_count o → (known o && rest_unused (used_places o) places) ≡ rest_unused n places
-    of (Some t) e = let same : n ≡ node_count t = cc in ap (λ (i : ℕ). rest_unused i places) (sym same)
-    of None e = cc
+  pub none_sound : kind_of k ≡ None → false ≡ sound_element k places
+  none_sound e = sym (ap (λ (o : Option ElementType). known o && rest_unused (used_places o) places) e)
+
+  pub inside_by : (nodes : ℕ) (t : ElementType) {r : Bool} → kind_of k ≡ Some t → r ≡ first_below (node_count t) nodes places → r ≡ inside_element nodes k places
+  inside_by nodes t e is = is ∙ sym (ap (λ (o : Option ElementType). first_below (used_places o) nodes places) e)
+
+  pub none_inside : (nodes : ℕ) → kind_of k ≡ None → true ≡ inside_element nodes k places
+  unfolding first_below all_below
+  none_inside nodes e = sym (ap (λ (o : Option ElementType). first_below (used_places o) nodes places) e)
 
 -- ---- an element of a mesh
 

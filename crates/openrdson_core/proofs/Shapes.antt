@@ -1,4 +1,4 @@
--- Document 01's shapes that speak of this crate's calls, worked out by the definitions. Assumes nothing.
+-- Two shapes, worked out by the definitions. Assumes nothing.
 use mathlib.Core.Path.{◌≡◌, refl}
 use mathlib.Core.Bool.{true, false}
 use mathlib.Core.List.{[], ◌∷◌}

@@ -1,22 +1,20 @@
--- Partial sums of the shoelace rule, and what the bit patterns of their points tell of the points' range. Assumes nothing.
+-- Partial sums of the shoelace rule, and the range of their points. Assumes nothing.
 use mathlib.Core.Path.{◌≡◌, refl, sym, ap, ◌∙◌, subst}
 use mathlib.Core.Bool.{Bool, true, false, ◌&&◌}
 use mathlib.Core.List.{List}
-use Prim.Native.Nat.{ℕ, zero, suc, ◌+◌, ◌-◌, ◌/◌, ◌%◌, ◌^◌, ◌≤◌, ◌<◌}
+use Prim.Native.Nat.{ℕ, zero, suc, ◌+◌, ◌-◌, ◌≤◌, ◌<◌}
 use native.Mathlib.Nat.{add-zero}
 use native.Mathlib.Omega.{arith}
-use lib.Bits.{bit_or}
 use lib.ListN.{length}
 use Rattle.lists.specs.Lists.{all_below}
 use lib.Ieee.{Float, le}
-use Rattle.lists.proofs.Scans.{all_start, all_more}
+use Rattle.lists.proofs.Scans.{both as scan_both}
 use Rattle.binary64.specs.Numbers.{◌⊕◌, ◌⊗◌, at_most, at}
 use Rattle.binary64.proofs.Order.{both}
 use Rattle.binary64.proofs.NotNumbers.{sum_numbers, difference_numbers, product_numbers}
-use Rattle.binary64.proofs.Patterns.{clear_or}
 use Rattle.openrdson_core.specs.Points.{point_at, point_in, points_in}
 use Rattle.openrdson_core.specs.Area.{cross, shoelace}
-use Rattle.openrdson_core.specs.Sums.{Small}
+use Rattle.openrdson_core.specs.Sums.{Numbers}
 use Rattle.openrdson_core.specs.declared.points.Point.{Point}
 use Rattle.openrdson_core.proofs.Areas.{sum_step}
 
@@ -58,16 +56,11 @@ module _ (xs ys : List Float) where
   pub whole_before : (i n : ℕ) → i < n → Number n → Whole (point_at xs ys i)
   whole_before i n l h = (step_whole i (number_before (i + 1) n (omega arith) h)).1
 
-  -- ---- the or of the patterns of points
-  pub small_start : (bits : ℕ) → Small xs ys 0 bits
-  small_start bits h = all_start (λ k. point_in (point_at xs ys k))
-
-  pub small_more : (i bits x y : ℕ) → Small xs ys i bits → (x / 2 ^ 62 % 2 ≡ 0 → at_most 20 (at xs i) ≡ true) → (y / 2 ^ 62 % 2 ≡ 0 → at_most 20 (at ys i) ≡ true)
-      → Small xs ys (i + 1) (bit_or (bit_or bits x) y)
-  small_more i bits x y w f g h =
-      let t = clear_or (bit_or bits x) y h in
-      let u = clear_or bits x t.0 in
-      all_more (λ k. point_in (point_at xs ys k)) i (w u.0) (both (at_most 20 (at xs i)) (at_most 20 (at ys i)) (f u.1) (g t.1))
+  -- the coordinates of `count` points from place i on, by the sum after them
+  pub numbers_of : (i count : ℕ) {s : Float} → s ≡ shoelace xs ys (i + count) → le s s ≡ true → Numbers xs i count × Numbers ys i count
+  numbers_of i count e h =
+      let n : Number (i + count) = sym (ap (λ (z : Float). le z z) e) ∙ h in
+      (λ k m. (whole_before (i + k) (i + count) (omega arith) n).0, λ k m. (whole_before (i + k) (i + count) (omega arith) n).1)
 
 -- ---- whether points are in range
 
@@ -90,8 +83,17 @@ module _ (xs ys : List Float) where
       → now ≡ (fine && all_below count (λ k. point_in (point_at xs ys (i + k)))) → now ≡ all_below (i + count) (λ k. point_in (point_at xs ys k))
   range_more i count f n = n ∙ ap (λ (b : Bool). b && all_below count (λ k. In (i + k))) f ∙ sym (all_joined In i count)
 
-  -- some of the first i points are out of range
-  pub range_fails : (i : ℕ) → i ≤ length xs → all_below i (λ k. point_in (point_at xs ys k)) ≡ false → points_in xs ys ≡ false
-  range_fails i h e =
-      let split : length xs ≡ i + (length xs - i) = omega arith in
-      ap (λ (n : ℕ). all_below n In) split ∙ all_joined In i (length xs - i) ∙ ap (λ (b : Bool). b && all_below (length xs - i) (λ k. In (i + k))) e
+  -- points are in range if their x and their y are
+  pub range_both : (i count : ℕ) → all_below count (λ k. at_most 20 (at xs (i + k))) ≡ true → all_below count (λ k. at_most 20 (at ys (i + k))) ≡ true
+      → all_below count (λ k. point_in (point_at xs ys (i + k))) ≡ true
+  unfolding all_below
+  range_both i zero h g = refl
+  range_both i (suc n) h g =
+      let x = scan_both (all_below n (λ k. at_most 20 (at xs (i + k)))) (at_most 20 (at xs (i + n))) h in
+      let y = scan_both (all_below n (λ k. at_most 20 (at ys (i + k)))) (at_most 20 (at ys (i + n))) g in
+      both (all_below n (λ k. point_in (point_at xs ys (i + k)))) (In (i + n)) (range_both i n x.0 y.0) (both (at_most 20 (at xs (i + n))) (at_most 20 (at ys (i + n))) x.1 y.1)
+
+  -- the points after the first i are tested
+  pub range_rest : (i : ℕ) {now : Bool} → i ≤ length xs → true ≡ all_below i (λ k. point_in (point_at xs ys k))
+      → now ≡ all_below (length xs - i) (λ k. point_in (point_at xs ys (i + k))) → now ≡ points_in xs ys
+  range_rest i l f n = let e : i + (length xs - i) ≡ length xs = omega arith in range_more i (length xs - i) f n ∙ ap (λ (m : ℕ). all_below m In) e

@@ -1,4 +1,4 @@
--- What a call answers, its refusal by document 01's number.
+-- What a call answers, its refusal by its number.
 use Rattle.std.specs.Prelude.{Result, Ok, Err}
 use Rattle.lists.specs.Answer.{Answer, refused, given}
 use Rattle.openrdson_core.specs.Refusals.{refusal_number}

@@ -1,4 +1,5 @@
--- Points that show early that a ring is no rectangle. Contracts of private functions cite these definitions; no public one does.
+-- Points that show, before the bounds are known, that a ring is no rectangle. Contracts of private functions and of `Ring::is_within`
+-- cite these definitions.
 use Rattle.std.specs.Prelude.{Bool, not, ◌&&◌, ◌||◌, List, length, Float}
 use Rattle.std.specs.Float.Ieee.{le}
 use Rattle.lists.specs.Lists.{all_below}
@@ -17,6 +18,6 @@ are_apart t a b c = not (le (abs (a ⊖ b)) t) && not (le (abs (b ⊖ c)) t) && 
 abbrev pub tolerance_within : Float → Float
 tolerance_within limit = tolerance9 ⊗ (limit ⊕ limit)
 
--- three points have three x, or three y, that are farther apart than any tolerance of a ring within limit
+-- points 0, 2 and 3 have three x, or three y, that are farther than t from each other
 abbrev pub three_apart : Float → List Float → List Float → Bool
 three_apart t xs ys = are_apart t (at xs 0) (at xs 2) (at xs 3) || are_apart t (at ys 0) (at ys 2) (at ys 3)

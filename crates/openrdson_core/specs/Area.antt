@@ -19,7 +19,7 @@ edge_from xs ys i = cross (point_at xs ys i) (point_at xs ys (next_of (length xs
 unfoldable pub shoelace : List Float → List Float → ℕ → Float
 shoelace xs ys k = fold_below k (λ sum i. sum ⊕ edge_from xs ys i) zero64
 
--- half the sum over all points, and +0 under three
+-- half the sum over all points, and +0 for fewer than three
 unfoldable pub signed_area : List Float → List Float → Float
 signed_area xs ys = cond (ltb (length xs) 3) zero64 (shoelace xs ys (length xs) ⊘ two64)
 

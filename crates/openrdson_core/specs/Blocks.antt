@@ -1,4 +1,5 @@
--- Name blocks (document 01, "What is lent"): a count of two bytes, little-endian, at most 256, then two parallel arrays of cells, the keys and the values. A block has exactly its counted length.
+-- Name blocks: a count of two bytes, little-endian, at most 256, then two parallel arrays of cells, the keys and the values. A block has exactly its counted
+-- length.
 use Rattle.std.specs.Prelude.{ℕ, ◌+◌, ◌*◌, ◌%◌, Bool, true, false, not, ◌&&◌, ◌||◌, List, eqb, leb, length, Option, option_map}
 use Rattle.lists.specs.Lists.{part, all_below, first}
 use Rattle.openrdson_core.specs.Bytes.{byte_at, same, zeros, unpad, name_ok, little}
@@ -34,6 +35,7 @@ cell_ok Name c = name_ok c
 cell_ok Figures c = figures_ok c
 cell_ok Ends c = name_or_none (part 0 32 c) && name_or_none (part 32 32 c)
 
+-- how many rows a block counts
 abbrev pub count : List ℕ → ℕ
 count s = little (part 0 2 s)
 
@@ -41,10 +43,11 @@ count s = little (part 0 2 s)
 abbrev pub value_start : Cell → Cell → List ℕ → ℕ → ℕ
 value_start k v s i = 2 + count s * width_of k + i * width_of v
 
--- key i and value i of a block with keys k and values v
+-- key i of a block with keys k
 abbrev pub key_at : Cell → List ℕ → ℕ → List ℕ
 key_at k s i = part (2 + i * width_of k) (width_of k) s
 
+-- value i of a block with keys k and values v
 abbrev pub value_at : Cell → Cell → List ℕ → ℕ → List ℕ
 value_at k v s i = part (value_start k v s i) (width_of v) s
 
@@ -61,7 +64,7 @@ block_ok k v once s =
     && all_below (count s) (λ i. cell_ok v (value_at k v s i))
     && (not once || distinct (count s) (key_at k s))
 
--- the five forms; layer numbers and a map's logical names don't repeat
+-- a block of layer names, of a layer map, of conductors or diffusions, and of vias; layer numbers and a map's logical names do not repeat
 abbrev pub layer_names_ok : List ℕ → Bool
 layer_names_ok s = block_ok Number Name true s
 

@@ -1,11 +1,11 @@
 -- Axis-aligned bounding boxes, as the Rust's `Bbox`: of equal values the first is kept.
-use Rattle.std.specs.Prelude.{Bool, true, false, ◌||◌, cond, List, length, Float}
+use Rattle.std.specs.Prelude.{Bool, true, false, ◌&&◌, ◌||◌, cond, List, length, Float}
 use Rattle.std.specs.Float.{inf}
 use Rattle.std.specs.Float.Ieee.{lt}
 use Rattle.lists.specs.Lists.{fold_below}
 use Rattle.binary64.specs.Numbers.{◌⊕◌, ◌⊖◌, ◌⊘◌}
 use Rattle.binary64.specs.Constants.{zero64, two64}
-use Rattle.openrdson_core.specs.Points.{the_point, point_at}
+use Rattle.openrdson_core.specs.Points.{the_point, point_at, point_in}
 use Rattle.openrdson_core.specs.declared.points.Point.{Point}
 use Rattle.openrdson_core.specs.declared.bounds.Bbox.{Bbox}
 
@@ -17,13 +17,19 @@ the_bbox a b c d = record { min_x = a; min_y = b; max_x = c; max_y = d }
 abbrev pub empty_bbox : Bbox
 empty_bbox = the_bbox (inf false) (inf false) (inf true) (inf true)
 
+-- the bounds are inverted in x or in y
 abbrev pub is_empty : Bbox → Bool
 is_empty b = lt b.max_x b.min_x || lt b.max_y b.min_y
 
--- x where it passes the bound, else the bound
+-- its low corner and its high one are in range
+abbrev pub corners_in : Bbox → Bool
+corners_in b = point_in (the_point b.min_x b.min_y) && point_in (the_point b.max_x b.max_y)
+
+-- x where it is below the bound, else the bound
 abbrev pub lesser : Float → Float → Float
 lesser x bound = cond (lt x bound) x bound
 
+-- x where it is above the bound, else the bound
 abbrev pub greater : Float → Float → Float
 greater x bound = cond (lt bound x) x bound
 
@@ -37,6 +43,7 @@ extend b other =
     cond (is_empty other) b
     (extend_point (extend_point b (the_point other.min_x other.min_y)) (the_point other.max_x other.max_y))
 
+-- the extents in x and in y; zero for an empty box
 abbrev pub width : Bbox → Float
 width b = cond (is_empty b) zero64 (b.max_x ⊖ b.min_x)
 

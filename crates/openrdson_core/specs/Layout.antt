@@ -15,10 +15,11 @@ pattern_of (negsuc n) = 65535 - n
 unfoldable pub row_of_pattern : List ℕ → ℕ → Option ℕ
 row_of_pattern s bits = first (λ i. eqb (little (key_at Number s i)) bits) (count s) 0
 
--- its logical name, without the padding: 14
+-- the logical name of a layer, without its padding
 abbrev pub name_of_layer : List ℕ → ℤ → Option (List ℕ)
 name_of_layer s layer = option_map unpad (option_map (value_at Number Name s) (row_of_pattern s (pattern_of layer)))
 
+-- the same of any bytes: 14 where they are no block of layer names
 unfoldable pub layer_name : List ℕ → ℤ → Answer (Option (List ℕ))
 layer_name s layer = unless (layer_names_ok s) 14 (given (name_of_layer s layer))
 

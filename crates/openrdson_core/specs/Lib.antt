@@ -1,4 +1,5 @@
--- The definitions that the contracts cite: one file a source file, and the map from each answer enum.
+-- The definitions that the contracts cite, most of them one file a source file. The numbers in a definition's comment are refusals (Refusals), in the order
+-- in which they are tried.
 pub mod Refusals
 pub mod Points
 pub mod Answers

@@ -25,7 +25,7 @@ lookup conducting via name =
     (unless (map_ok via) 14
     (given (option_or (in_map conducting name) (in_map via name))))
 
--- the part, empty unless found
+-- the physical name that a lookup gives, empty unless one is found
 abbrev pub part_of : Answer (Option (List ℕ)) → List ℕ
 part_of (given (Some p)) = p
 part_of (given None) = []
@@ -33,22 +33,24 @@ part_of (refused n) = []
 
 -- ---- what the spans say
 
--- the bytes from a start on, and that they lie in the block
+-- the bytes of a span of the block
 abbrev pub spanned : List ℕ → Span → List ℕ
 spanned s p = part p.start p.count s
 
+-- the span lies in the block
 abbrev pub span_within : List ℕ → Span → Type 0
 span_within s p = p.start + p.count ≤ length s
 
--- a part starts there
+-- the span starts at this place
 abbrev pub span_from : Option ℕ → Span → Type 0
 span_from at p = at ≡ Some p.start
 
--- the part of the one map or the other
+-- the bytes of a place in the one map or the other
 abbrev pub placed : List ℕ → List ℕ → NamePlace → List ℕ
 placed conducting via (place.Conducting p) = spanned conducting p
 placed conducting via (place.Via p) = spanned via p
 
+-- the place lies in its map
 abbrev pub place_within : List ℕ → List ℕ → NamePlace → Type 0
 place_within conducting via (place.Conducting p) = span_within conducting p
 place_within conducting via (place.Via p) = span_within via p

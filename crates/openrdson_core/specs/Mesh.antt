@@ -1,4 +1,4 @@
--- A mesh (document 01, "What is lent"): six lists, three of node coordinates and three of elements. An element is a kind, eight node places and a region number.
+-- A mesh: six lists, three of node coordinates and three of elements. An element is a kind, eight node places and a region number.
 use Rattle.std.specs.Prelude.{ℕ, ◌+◌, ◌*◌, Bool, true, false, ◌&&◌, ◌||◌, cond, List, eqb, leb, ltb, length, get_or, Float, ◌≡◌, Option, Some, None, Result, Ok, Err}
 use Rattle.lists.specs.Lists.{all_below, part}
 use Rattle.openrdson_core.specs.declared.mesh.ElementType.{ElementType}
@@ -90,6 +90,7 @@ the_counts nodes elements = record { nodes = nodes; elements = elements }
 unfoldable pub parallel_lengths : ℕ → ℕ → ℕ → ℕ → ℕ → ℕ → Bool
 parallel_lengths xs ys zs kinds places regions = eqb xs ys && eqb xs zs && eqb kinds regions && eqb places (8 * kinds)
 
+-- the same of a mesh
 abbrev pub parallel : Mesh → Bool
 parallel m = parallel_lengths (length m.xs) (length m.ys) (length m.zs) (length m.kinds) (length m.places) (length m.regions)
 
@@ -97,6 +98,7 @@ parallel m = parallel_lengths (length m.xs) (length m.ys) (length m.zs) (length 
 unfoldable pub within_lengths : Counts → ℕ → ℕ → Bool
 within_lengths c nodes kinds = leb c.nodes nodes && leb c.elements kinds
 
+-- the same of a mesh's lists
 abbrev pub within : Counts → Mesh → Bool
 within c m = within_lengths c (length m.xs) (length m.kinds)
 
@@ -128,6 +130,7 @@ valid_element nodes k places = sound_element k places && inside_element nodes k 
 
 -- ---- element e of a mesh
 
+-- the number of its kind
 abbrev pub kind_at : Mesh → ℕ → ℕ
 kind_at m e = get_or m.kinds e 0
 

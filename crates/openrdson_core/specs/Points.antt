@@ -15,6 +15,7 @@ point_at xs ys i = the_point (at xs i) (at ys i)
 abbrev pub point_in : Point → Bool
 point_in p = at_most 20 p.x && at_most 20 p.y
 
+-- all of them are in range
 abbrev pub points_in : List Float → List Float → Bool
 points_in xs ys = all_below (length xs) (λ i. point_in (point_at xs ys i))
 
@@ -26,10 +27,11 @@ even_points m n = unless (eqb m n) 16 (given tt)
 unfoldable pub points_part : List Float → List Float → ℕ → ℕ → Option (List Float × List Float)
 points_part xs ys start count = cond (leb (start + count) (length xs)) (Some (part start count xs, part start count ys)) None
 
--- When a call on a ring is turned down: 16, 2, 1. The first two are known from the lists' lengths.
+-- what the lengths of a ring's lists are refused for: 16, 2
 abbrev pub ring_size : ℕ → ℕ → Answer (Unit {0})
 ring_size m n = unless (eqb m n) 16 (unless (leb m 512) 2 (given tt))
 
+-- what a ring is refused for: 16, 2, 1
 unfoldable pub ring_fault : List Float → List Float → Answer (Unit {0})
 ring_fault xs ys = and_then (ring_size (length xs) (length ys)) (λ _. unless (points_in xs ys) 1 (given tt))
 

@@ -34,10 +34,11 @@ on_some_corner b eps p = on_corner (low_left b) eps p || on_corner (low_right b)
 abbrev pub all_on_corners : List Float → List Float → Bbox → Float → Bool
 all_on_corners xs ys b eps = all_below (length xs) (λ i. on_some_corner b eps (point_at xs ys i))
 
--- a point of the ring is on the corner, and on each of the four
+-- a point of the ring is on the corner
 abbrev pub is_taken : List Float → List Float → Point → Float → Bool
 is_taken xs ys corner eps = any_below (length xs) (λ i. on_corner corner eps (point_at xs ys i))
 
+-- a point of the ring is on each of the four
 abbrev pub all_corners_taken : List Float → List Float → Bbox → Float → Bool
 all_corners_taken xs ys b eps = is_taken xs ys (low_left b) eps && is_taken xs ys (low_right b) eps && is_taken xs ys (high_right b) eps && is_taken xs ys (high_left b) eps
 

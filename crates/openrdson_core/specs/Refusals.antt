@@ -1,4 +1,4 @@
--- Document 01's number of each refusal ("When a call is turned down").
+-- The number of each refusal. include/openrdson.h says what each means.
 use Rattle.std.specs.Prelude.{ℕ}
 use Rattle.openrdson_core.specs.declared.refusals.Refusal.{Refusal}
 use Rattle.openrdson_core.specs.declared.refusals.Refusal.TheVariants as R

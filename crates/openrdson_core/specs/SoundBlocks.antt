@@ -1,4 +1,4 @@
--- The bytes of six sound blocks.
+-- The bytes of six blocks of which none is damaged.
 use Rattle.openrdson_core.specs.Tech.{Blocks, the_blocks}
 use Rattle.openrdson_core.specs.declared.tech.SoundBlocks.{SoundBlocks}
 

@@ -19,6 +19,7 @@ use Rattle.openrdson_core.specs.declared.tech.ViaLayers.{ViaLayers}
 abbrev pub float_of : List ℕ → Float
 float_of c = of_bits binary64 (little c)
 
+-- the figure in these bytes, if it is present
 abbrev pub figure_of : Bool → List ℕ → Option Float
 figure_of present c = cond present (Some (float_of c)) None
 
@@ -30,6 +31,7 @@ figures_of c = record { height = figure_of (has_height c) (part 1 8 c); thicknes
 unfoldable pub figures_in : List ℕ → Bool
 figures_in c = (not (has_height c) || at_most 19 (float_of (part 1 8 c))) && (not (has_thickness c) || at_most 19 (float_of (part 9 8 c)))
 
+-- so are those of every entry of a block
 unfoldable pub stack_in : List ℕ → Bool
 stack_in s = all_below (count s) (λ i. figures_in (value_at cell.Name cell.Figures s i))
 
@@ -46,6 +48,7 @@ stack_layer s name =
 abbrev pub end_name : List ℕ → Option (List ℕ)
 end_name c = cond (zeros c) None (Some (unpad c))
 
+-- the names of a via's layers, each if it has one
 pub record ViaNames : Type 0 where
   pub bottom : Option (List ℕ)
   pub top : Option (List ℕ)
@@ -63,6 +66,7 @@ start_of_ends s name = option_map (value_start cell.Name cell.Ends s) (row_of s 
 
 -- ---- materials: conductors, diffusions, then vias; a name's number is its first place plus 1, and 0 where it has none
 
+-- the number of the row found, after so many rows of other blocks; other where none is found
 abbrev pub number_from : ℕ → Option ℕ → ℕ → ℕ
 number_from before None other = other
 number_from before (Some i) other = before + i + 1
@@ -111,6 +115,7 @@ the_blocks names conducting via conductors diffusions vias =
 abbrev pub bytes_of : Lent → Blocks
 bytes_of b = the_blocks b.names.now b.conducting.now b.via.now b.conductors.now b.diffusions.now b.vias.now
 
+-- what they are refused for
 abbrev pub fault_of : Blocks → Answer (Unit {0})
 fault_of b = blocks_fault b.names b.conducting b.via b.conductors b.diffusions b.vias
 
@@ -125,13 +130,14 @@ pub record Sound (b : Blocks) : Type 0 where
 
 -- ---- what a via's spans say
 
+-- the names that the spans are
 abbrev pub via_names : List ℕ → ViaLayers → ViaNames
 via_names s v = record { bottom = option_map (spanned s) v.bottom; top = option_map (spanned s) v.top }
 
--- the parts lie in the block
+-- the spans lie in the block
 abbrev pub via_layers_within : List ℕ → ViaLayers → Type 0
 via_layers_within s v = IfSome v.bottom (span_within s) × IfSome v.top (span_within s)
 
--- the bottom's part starts there, the top's 32 bytes further
+-- the bottom's span starts at this place, the top's 32 bytes further
 abbrev pub via_layers_from : Option ℕ → ViaLayers → Type 0
 via_layers_from at v = IfSome v.bottom (span_from at) × IfSome v.top (span_from (option_map (λ k. k + 32) at))

@@ -1,16 +1,17 @@
 // The area of a ring by the shoelace rule.
-ghost use Rattle.std.specs.Prelude.{◌≡◌, ◌+◌, ◌≤◌, ◌<◌, length, true, false, IfSome, IfNone};
+ghost use Rattle.std.specs.Prelude.{◌≡◌, ◌+◌, ◌≤◌, ◌<◌, length, true};
 ghost use Rattle.std.specs.Float.Ieee.{le};
 ghost use Rattle.lists.specs.Answer.{unless, given};
 ghost use Rattle.lists.specs.Lists.{all_below};
+ghost use Rattle.binary64.specs.Numbers.{at, at_most};
 ghost use Rattle.openrdson_core.specs.Points.{point_at, point_in, points_in, of_ring};
 ghost use Rattle.openrdson_core.specs.Area.{cross, shoelace, signed_area, area, is_ccw};
-ghost use Rattle.openrdson_core.specs.Sums.{Small, Summed};
+ghost use Rattle.openrdson_core.specs.Sums.{Numbers, Summed};
 ghost use Rattle.openrdson_core.specs.Answers.{answer};
 
 use crate::points::Point;
 use crate::refusals::Refusal;
-use crate::ring::Ring;
+use crate::ring::{Ring, next_place};
 
 // Half the shoelace sum: above zero for a ring that turns counter-clockwise, and zero under three points.
 #[tactic(auto, unfolding(crate::specs::Points::ring_fault))]
@@ -44,14 +45,14 @@ pub fn cross_of(a: Point, b: Point) -> f64
     a.x * b.y - b.x * a.y
 }
 
-// The sum with the eight edges from place i on. All x are read before all y: the compiler then works on two neighbours of one list at once,
-// here and in `patterns_to`.
+// The sum with the eight edges from place i on. All x are read before all y: the compiler then works on two neighbours of one list at once.
 #[tactic(auto, using(crate::proofs::Areas::sum_eight))]
 fn add_eight(ring: Ring, i: usize, sum: f64) -> f64
-    requires inside { i + 8 < length ring.xs.now }
+    requires inside { i + 8 ≤ length ring.xs.now }
     requires total { sum ≡ shoelace ring.xs.now ring.ys.now i }
     ensures { result ≡ shoelace ring.entry.xs.now ring.entry.ys.now (i + 8) }
 {
+    let next = next_place(ring.xs.len(), i + 7);
     let x0 = ring.xs[i];
     let x1 = ring.xs[i + 1];
     let x2 = ring.xs[i + 2];
@@ -60,7 +61,7 @@ fn add_eight(ring: Ring, i: usize, sum: f64) -> f64
     let x5 = ring.xs[i + 5];
     let x6 = ring.xs[i + 6];
     let x7 = ring.xs[i + 7];
-    let x8 = ring.xs[i + 8];
+    let x8 = ring.xs[next];
     let y0 = ring.ys[i];
     let y1 = ring.ys[i + 1];
     let y2 = ring.ys[i + 2];
@@ -69,49 +70,54 @@ fn add_eight(ring: Ring, i: usize, sum: f64) -> f64
     let y5 = ring.ys[i + 5];
     let y6 = ring.ys[i + 6];
     let y7 = ring.ys[i + 7];
-    let y8 = ring.ys[i + 8];
+    let y8 = ring.ys[next];
     let first = sum + (x0 * y1 - x1 * y0) + (x1 * y2 - x2 * y1);
     let second = first + (x2 * y3 - x3 * y2) + (x3 * y4 - x4 * y3);
     let third = second + (x4 * y5 - x5 * y4) + (x5 * y6 - x6 * y5);
     third + (x6 * y7 - x7 * y6) + (x7 * y8 - x8 * y7)
 }
 
-// The sum with the edges from place `from` to place `to`.
-#[tactic(auto, using(crate::proofs::Areas::sum_more))]
-fn add_to(ring: Ring, from: usize, to: usize, start: f64) -> f64
-    requires ordered { from ≤ to }
-    requires inside { to < length ring.xs.now }
+// The sum over all edges, from that over the edges from the first `from` points.
+#[tactic(auto, using(crate::proofs::Areas::sum_next))]
+fn add_rest(ring: Ring, from: usize, start: f64) -> f64
+    requires inside { from ≤ length ring.xs.now }
     requires total { start ≡ shoelace ring.xs.now ring.ys.now from }
-    ensures { result ≡ shoelace ring.entry.xs.now ring.entry.ys.now to }
+    ensures { result ≡ shoelace ring.entry.xs.now ring.entry.ys.now (length ring.entry.xs.now) }
 {
     let mut sum = start;
-    for i in from..to {
+    let n = ring.xs.len();
+    for i in from..n {
         let here = ring.point(i);
-        let next = ring.point(i + 1);
+        let next = ring.point(next_place(n, i));
         sum = sum + cross_of(here, next);
     }
     sum
 }
 
-// The or of `start` and the bit patterns of the points from place `from` to before place `to`, for a sum that is a number: it was made of
-// numbers.
-fn patterns_to(ring: Ring, from: usize, to: usize, start: u64) -> u64
-    requires ordered { from ≤ to }
-    requires inside { to ≤ length ring.xs.now }
-    requires number { le (shoelace ring.xs.now ring.ys.now to) (shoelace ring.xs.now ring.ys.now to) ≡ true }
-    requires small { Small ring.xs.now ring.ys.now from start }
-    ensures { Small ring.entry.xs.now ring.entry.ys.now to result }
+// The upper half of a number's pattern, without the sign. The larger of two sizes has no smaller half, and 2^20 has 0x4130_0000.
+#[tactic(auto, using(binary64::proofs::Patterns::low_pattern))]
+fn upper_half(x: f64) -> u32
+    requires { le x x ≡ true }
+    ensures { result < 0x4130_0000 → at_most 20 x ≡ true }
 {
-    let mut bits = start;
-    for i in from..to {
-        let x = binary64::to_bits(ring.xs[i]);
-        let y = binary64::to_bits(ring.ys[i]);
-        bits = bits | x | y;
-    }
-    bits
+    (binary64::to_bits(x) / 0x1_0000_0000 % 0x8000_0000) as u32
 }
 
-// Whether the `count` points from place `from` on are in range.
+// The largest of `start` and the upper halves of the eight entries from place `from` on, which are numbers.
+fn largest_half(list: &[f64], from: usize, start: u32) -> u32
+    requires inside { from + 8 ≤ length list.now }
+    requires numbers { Numbers list.now from 8 }
+    ensures { result < 0x4130_0000 → (start < 0x4130_0000) × (all_below 8 (λ k. at_most 20 (at list.now (from + k))) ≡ true) }
+{
+    let mut most = start;
+    for k in 0..8 {
+        most = most.max(upper_half(list[from + k]));
+    }
+    most
+}
+
+// Whether the `count` points from place `from` on are in range. There is no branch in the loop, as in `Ring::is_within` (ring.rt); a ring
+// of these points alone, for `Ring::is_in_range`, would have its lengths to prove again.
 #[tactic(auto, using(lists::proofs::Scans::all_start, lists::proofs::Scans::all_noted))]
 fn are_in_range(ring: Ring, from: usize, count: usize) -> bool
     requires inside { from + count ≤ length ring.xs.now }
@@ -132,70 +138,36 @@ struct Partial {
     count: usize,
 }
 
-// Eight edges a turn, while a ninth point is left, and no pattern so far has bit 62: every coordinate is then below 2 in size. A sum that is
-// not a number ends it too, since a not-a-number's pattern may not be asked for.
-#[tactic(auto, using(binary64::proofs::NotNumbers::same_number))]
-fn sum_of_small(ring: Ring) -> Partial
-    requires some { 0 < length ring.xs.now }
-    ensures inside { result.count < length ring.entry.xs.now }
+// Eight edges a turn, until the sum is no number or the upper half of a coordinate is not below that of 2^20. A not-a-number's pattern may not
+// be asked for; each sum that is a number was made of numbers.
+fn sum_of_eights(ring: Ring) -> Partial
+    ensures inside { result.count ≤ length ring.entry.xs.now }
     ensures summed { Summed ring.entry.xs.now ring.entry.ys.now result.count result.sum true }
 {
     let mut done = Partial { sum: 0.0, count: 0 };
-    let mut bits = 0;
-    for turn in 0..(ring.xs.len() - 1) / 8 {
-        let count = 8 * turn + 8;
-        let sum = add_eight(ring, done.count, done.sum);
+    for turn in 0..ring.xs.len() / 8 {
+        let i = 8 * turn;
+        let sum = add_eight(ring, i, done.sum);
         if sum != sum {
             return done;
         }
-        bits = patterns_to(ring, done.count, count, bits);
-        if bits / 0x4000_0000_0000_0000 % 2 != 0 {
+        let of_xs = largest_half(ring.xs, i, 0);
+        if largest_half(ring.ys, i, of_xs) >= 0x4130_0000 {
             return done;
         }
+        let count = i + 8;
         done = Partial { sum, count };
     }
     done
 }
 
-// On by eight edges a turn, each point compared with the limit; none where one is out of range. It is a loop beside the first: one test for
-// both would add the comparisons to the points that the patterns settle.
-#[tactic(auto, using(crate::proofs::SumLaws::range_more, crate::proofs::SumLaws::range_fails))]
-fn sum_of_large(ring: Ring, from: Partial) -> Option<Partial>
-    requires inside { from.count < length ring.xs.now }
-    requires summed { Summed ring.xs.now ring.ys.now from.count from.sum true }
-    ensures inside { IfSome result (λ p. p.count < length ring.entry.xs.now) }
-    ensures summed { IfSome result (λ p. Summed ring.entry.xs.now ring.entry.ys.now p.count p.sum true) }
-    ensures none { IfNone result (points_in ring.entry.xs.now ring.entry.ys.now ≡ false) }
-{
-    let mut sum = from.sum;
-    let mut fine = true;
-    let turns = (ring.xs.len() - 1 - from.count) / 8;
-    for turn in 0..turns {
-        let i = from.count + 8 * turn;
-        sum = add_eight(ring, i, sum);
-        fine = fine & are_in_range(ring, i, 8);
-    }
-    if !fine {
-        return None;
-    }
-    let count = from.count + 8 * turns;
-    Some(Partial { sum, count })
-}
-
-// The signed area, or 1: the edges from each point to the next, then the one that closes the ring.
-#[tactic(auto, using(crate::proofs::Areas::sum_closed, crate::proofs::SumLaws::range_more), unfolding(crate::specs::Area::signed_area, lists::specs::Lists::all_below))]
+// The signed area, or 1.
 fn signed_area_of_points(ring: Ring) -> Result<f64, Refusal>
     ensures { answer result ≡ unless (points_in ring.entry.xs.now ring.entry.ys.now) 1 (given (signed_area ring.entry.xs.now ring.entry.ys.now)) }
 {
     let n = ring.xs.len();
-    if n == 0 {
-        return Ok(0.0);
-    }
-    let small = sum_of_small(ring);
-    let first = sum_of_large(ring, small).ok_or(Refusal::NumberOutOfRange)?;
-    let most = add_to(ring, first.count, n - 1, first.sum);
-    let last = ring.point(n - 1);
-    let sum = most + cross_of(last, ring.point(0));
+    let first = sum_of_eights(ring);
+    let sum = add_rest(ring, first.count, first.sum);
     if !are_in_range(ring, first.count, n - first.count) {
         return Err(Refusal::NumberOutOfRange);
     }

@@ -1,10 +1,13 @@
-// Name blocks: a count, then an array of keys and an array of values. What is asked of the length of a cell or a block goes with what is read of it.
+// Name blocks: a count, then an array of keys and an array of values. A function that reads a cell or a block asks that it is long enough for that.
 ghost use Rattle.std.specs.Prelude.{◌≡◌, true, false, not, ◌&&◌, ◌||◌, ◌+◌, ◌*◌, ◌≤◌, length};
+ghost use Rattle.lists.specs.Answer.{unless, given};
 ghost use Rattle.lists.specs.Lists.{part, all_below, first};
 ghost use Rattle.openrdson_core.specs.Bytes.{same, zeros, unpad};
+ghost use Rattle.openrdson_core.specs.Answers.{answer};
 ghost use Rattle.openrdson_core.specs.Blocks as spec;
 
 use crate::bytes::{is_name, is_zero, name_length};
+use crate::refusals::Refusal;
 
 // A cell of a block's array: a layer number of two bytes, a name, a stack entry's figures, a via's two layers.
 #[derive(Clone, Copy)]
@@ -28,7 +31,7 @@ fn width(cell: Cell) -> usize
     }
 }
 
-// Whether a stack entry's flag byte is known and its absent figures are zero: of the flag and the bytes that are no figures, which `entry_at` leaves out.
+// Whether a stack entry's flag byte is known and its absent figures are zero. `entry_at` (tech.rt) reads the figures that are present.
 #[tactic(auto, unfolding(crate::specs::Blocks::figures_ok))]
 fn is_stack_entry(c: &[u8]) -> bool
     requires { length c.now ≡ 17 }
@@ -60,54 +63,40 @@ fn is_cell(c: &[u8], cell: Cell) -> bool
 }
 
 // Whether the n cells from place `from` on are as their kind must be.
-#[tactic(auto, using(lists::proofs::Scans::all_start, lists::proofs::Scans::all_more, lists::proofs::Parts::part_lent))]
 fn all_cells(s: &[u8], from: usize, n: usize, cell: Cell) -> bool
     requires { from + n * spec.width_of cell ≤ length s.now }
     ensures { result ≡ all_below n (λ i. spec.cell_ok cell (part (from + i * spec.width_of cell) (spec.width_of cell) s.now)) }
 {
     let w = width(cell);
-    for i in 0..n {
+    (0..n).all(|i| {
         let at = from + i * w;
-        if !is_cell(&s[at..at + w], cell) {
-            return false;
-        }
-    }
-    true
+        is_cell(&s[at..at + w], cell)
+    })
 }
 
 // Whether cell n is none of the n cells of w bytes before it, which start at place 2.
-#[tactic(auto, using(lists::proofs::Scans::all_start, lists::proofs::Scans::all_more, lists::proofs::Parts::part_lent, crate::proofs::ByteLaws::same_is))]
 fn is_new(s: &[u8], w: usize, n: usize) -> bool
     requires { 2 + n * w + w ≤ length s.now }
     ensures { result ≡ all_below n (λ j. not (same (part (2 + j * w) w s.now) (part (2 + n * w) w s.now))) }
 {
     let cell = &s[2 + n * w..2 + n * w + w];
-    for j in 0..n {
+    (0..n).all(|j| {
         let at = 2 + j * w;
-        if &s[at..at + w] == cell {
-            return false;
-        }
-    }
-    true
+        &s[at..at + w] != cell
+    })
 }
 
-// Whether no two of the n cells of w bytes that start at place 2 are the same. `all` over the cells was tried: its proof does not close.
-#[tactic(auto, using(lists::proofs::Scans::all_start, lists::proofs::Scans::all_more))]
+// Whether no two of the n cells of w bytes that start at place 2 are the same.
 fn are_distinct(s: &[u8], w: usize, n: usize) -> bool
     requires { 2 + n * w ≤ length s.now }
     ensures { result ≡ spec.distinct n (λ i. part (2 + i * w) w s.now) }
 {
-    for i in 0..n {
-        if !is_new(s, w, i) {
-            return false;
-        }
-    }
-    true
+    (0..n).all(|i| is_new(s, w, i))
 }
 
 // Whether s is a block of these keys and values, `once` where no key may stand twice: a flag, since a closure for one test more is no plainer.
 #[tactic(auto, unfolding(crate::specs::Blocks::block_ok))]
-pub fn is_block(s: &[u8], key: Cell, value: Cell, once: bool) -> bool
+fn is_block(s: &[u8], key: Cell, value: Cell, once: bool) -> bool
     ensures { result ≡ spec.block_ok key value once s.now }
 {
     if s.len() < 2 {
@@ -125,7 +114,17 @@ pub fn is_block(s: &[u8], key: Cell, value: Cell, once: bool) -> bool
     !once || are_distinct(s, k, n)
 }
 
-// How many rows a block counts.
+// Whether anything is against a block: 14.
+pub fn block_check(s: &[u8], key: Cell, value: Cell, once: bool) -> Result<(), Refusal>
+    ensures { answer result ≡ unless (spec.block_ok key value once s.now) 14 (given tt) }
+{
+    if !is_block(s, key, value, once) {
+        return Err(Refusal::BlockDamaged);
+    }
+    Ok(())
+}
+
+// How many rows a block counts. For a caller that has found two bytes in it.
 #[tactic(auto, using(crate::proofs::ByteLaws::two_bytes))]
 pub fn rows(s: &[u8]) -> usize
     requires { 2 ≤ length s.now }
@@ -152,16 +151,12 @@ pub struct Keys<'a> {
 
 impl Keys<'_> {
     // The first row whose key is the name.
-    #[tactic(auto, using(lists::proofs::Searches::search_start, lists::proofs::Searches::search_found, lists::proofs::Searches::search_more, lists::proofs::Parts::part_lent), unfolding(crate::specs::Blocks::row_of))]
     pub fn find(self, name: &[u8]) -> Option<usize>
         ensures { result ≡ spec.row_of self.entry.bytes.now name.now }
     {
-        for i in 0..rows(self.bytes) {
+        (0..rows(self.bytes)).find(|&i| {
             let at = 2 + i * 32;
-            if is_named(&self.bytes[at..at + 32], name) {
-                return Some(i);
-            }
-        }
-        None
+            is_named(&self.bytes[at..at + 32], name)
+        })
     }
 }

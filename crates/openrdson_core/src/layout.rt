@@ -7,7 +7,7 @@ ghost use Rattle.openrdson_core.specs.Maps.{spanned, span_within, span_from};
 ghost use Rattle.openrdson_core.specs.Answers.{answer};
 ghost use Rattle.openrdson_core.specs.Layout as spec;
 
-use crate::blocks::{Cell, is_block, rows};
+use crate::blocks::{Cell, block_check, rows};
 use crate::bytes::contains;
 use crate::maps::Span;
 use crate::refusals::Refusal;
@@ -20,14 +20,12 @@ pub struct LayerNames<'a> {
 }
 
 impl<'a> LayerNames<'a> {
-    // The block, if nothing is against it; 14.
+    // The block, if nothing is against it; 14. `LayerMap`, `Stack` and `Vias` have a `checked` too: each judges another kind of block, and keeps another fact.
     pub fn checked(bytes: &'a [u8]) -> Result<Self, Refusal>
         ensures fault { map_answer (λ _. tt {0}) (answer result) ≡ unless (layer_names_ok bytes.now) 14 (given tt) }
         ensures bytes { IfOk result (λ b. b.bytes.now ≡ bytes.now) }
     {
-        if !is_block(bytes, Cell::Number, Cell::Name, true) {
-            return Err(Refusal::BlockDamaged);
-        }
+        block_check(bytes, Cell::Number, Cell::Name, true)?;
         Ok(LayerNames { bytes })
     }
 
@@ -48,17 +46,13 @@ impl<'a> LayerNames<'a> {
     }
 
     // The first row whose key has these bytes.
-    #[tactic(auto, using(lists::proofs::Searches::search_start, lists::proofs::Searches::search_more, crate::proofs::BlockLaws::block_counts, crate::proofs::ByteLaws::two_bytes_at, lists::proofs::Searches::search_found, lists::proofs::Searches::search_end), unfolding(crate::specs::Layout::row_of_pattern))]
     fn find_pattern(self, bits: u16) -> Option<usize>
         ensures { result ≡ spec.row_of_pattern self.entry.bytes.now bits }
     {
-        for i in 0..self.rows() {
+        (0..self.rows()).find(|&i| {
             let at = 2 + i * 2;
-            if u16::from_le_bytes([self.bytes[at], self.bytes[at + 1]]) == bits {
-                return Some(i);
-            }
-        }
-        None
+            u16::from_le_bytes([self.bytes[at], self.bytes[at + 1]]) == bits
+        })
     }
 
     // Where the logical name of row i stands.
@@ -72,7 +66,7 @@ impl<'a> LayerNames<'a> {
         Span::name_at(self.bytes, 2 + self.rows() * 2 + i * 32)
     }
 
-    // The logical name of row i, without its padding.
+    // The logical name of row i, without its padding. For a caller that has found row i in the block.
     pub fn name_at(self, i: usize) -> &'a [u8]
         requires { i < count self.bytes.now }
         ensures { result.now ≡ unpad (value_at Cell.Number Cell.Name self.entry.bytes.now i) }
@@ -103,7 +97,7 @@ pub fn layer_name(s: &[u8], layer: i16) -> Result<Option<Span>, Refusal>
     Ok(names.find_name(layer))
 }
 
-// Whether a logical name is a marker's: such layers have no geometry.
+// Whether a logical name is a marker's: the polygons of such a layer have no region.
 #[tactic(auto, using(crate::proofs::ByteLaws::starts_is), unfolding(crate::specs::Layout::is_marker))]
 pub fn is_marker(name: &[u8]) -> bool
     ensures { result ≡ spec.is_marker name.now }

@@ -1,4 +1,6 @@
-// Points, bounding boxes, areas, the rectangle test and solids (the original's geometry.rs), the kinds of elements and the counts of a mesh (mesh.rs), name blocks and the lookups in them (tech.rs, layout.rs).
+// Points, bounding boxes, areas, the rectangle test and solids (the original's geometry.rs), the kinds of elements and the counts of a mesh (mesh.rs), name
+// blocks and the lookups in them (tech.rs, layout.rs). The numbers at the end of a function's comment are its refusals (refusals.rt), in the order in which
+// they are tried.
 #![tactic(auto)]
 
 mod area;
@@ -26,8 +28,8 @@ pub use mesh::{
 pub use points::{Point, Points, ring_check, ring_size};
 pub use rectangle::is_axis_aligned_rectangle;
 pub use refusals::Refusal;
-pub use ring::{Ring, SoundRing};
-pub use solids::{Heights, Material, PolygonNumber, Solid, SolidRegion};
+pub use ring::{Ring, SoundRing, next_place};
+pub use solids::{Footprint, Heights, Material, PolygonNumber, Solid, SolidRegion};
 pub use tech::{
     Blocks, Figures, SoundBlocks, Stack, ViaLayers, Vias, check_blocks, material_number,
     stack_layer, via_layers,

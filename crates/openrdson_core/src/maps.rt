@@ -7,7 +7,7 @@ ghost use Rattle.openrdson_core.specs.Blocks.{map_ok};
 ghost use Rattle.openrdson_core.specs.Answers.{answer};
 ghost use Rattle.openrdson_core.specs.Maps as spec;
 
-use crate::blocks::{Cell, Keys, is_block, rows};
+use crate::blocks::{Cell, Keys, block_check, rows};
 use crate::bytes::name_length;
 use crate::refusals::Refusal;
 
@@ -31,7 +31,7 @@ impl Span {
         Span { start: at, count }
     }
 
-    // That part of the block.
+    // That part of the block. For a caller that has found it in this block.
     pub fn of(self, s: &[u8]) -> &[u8]
         requires { spec.span_within s.now self }
         ensures { result.now ≡ spec.spanned s.now self }
@@ -55,14 +55,12 @@ pub struct LayerMap<'a> {
 }
 
 impl<'a> LayerMap<'a> {
-    // The map, if nothing is against its block; 14.
+    // The map, if nothing is against its block; 14. As in layout.rt and tech.rt, where another kind of block is judged and another fact is kept.
     pub fn checked(bytes: &'a [u8]) -> Result<Self, Refusal>
         ensures fault { map_answer (λ _. tt {0}) (answer result) ≡ unless (map_ok bytes.now) 14 (given tt) }
         ensures bytes { IfOk result (λ b. b.bytes.now ≡ bytes.now) }
     {
-        if !is_block(bytes, Cell::Name, Cell::Name, true) {
-            return Err(Refusal::BlockDamaged);
-        }
+        block_check(bytes, Cell::Name, Cell::Name, true)?;
         Ok(LayerMap { bytes })
     }
 
@@ -79,7 +77,7 @@ impl<'a> LayerMap<'a> {
     }
 }
 
-// Where the physical name of a logical one stands. The calls take the two maps by themselves, as document 01 has them.
+// Where the physical name of a logical one stands: the conducting map is asked first, then the via map; 14. The calls take the two blocks as they are lent.
 #[tactic(auto, unfolding(crate::specs::Maps::lookup))]
 pub fn name_place(conducting: &[u8], via: &[u8], name: &[u8]) -> Result<Option<NamePlace>, Refusal>
     ensures value { map_answer (option_map (spec.placed conducting.now via.now)) (answer result) ≡ spec.lookup conducting.now via.now name.now }
@@ -94,14 +92,14 @@ pub fn name_place(conducting: &[u8], via: &[u8], name: &[u8]) -> Result<Option<N
     Ok(via.find(name).map(NamePlace::Via))
 }
 
-// Whether a map has a physical name for a logical one, or 14.
+// Whether a map has a physical name for a logical one; 14.
 pub fn look_up(conducting: &[u8], via: &[u8], name: &[u8]) -> Result<bool, Refusal>
     ensures { answer result ≡ map_answer is_some (spec.lookup conducting.now via.now name.now) }
 {
     Ok(name_place(conducting, via, name)?.is_some())
 }
 
-// The physical name, a part of one of the two maps without its padding; empty unless one has it.
+// The physical name of a logical one, a part of one of the two maps, without its padding; empty where none is found or a map is damaged.
 pub fn physical_name<'a>(conducting: &'a [u8], via: &'a [u8], name: &[u8]) -> &'a [u8]
     ensures { result.now ≡ spec.part_of (spec.lookup conducting.now via.now name.now) }
 {

@@ -7,6 +7,7 @@ ghost use Rattle.openrdson_core.specs.Answers.{answer};
 use crate::refusals::Refusal;
 use crate::ring::Ring;
 
+// A point of a layout.
 #[repr(C)]
 #[derive(Clone, Copy, Debug, PartialEq)]
 pub struct Point {
@@ -22,7 +23,7 @@ impl Point {
         Self { x, y }
     }
 
-    // Both coordinates are finite and at most 2^20 in size.
+    // Whether both coordinates are finite and at most 2^20 in size.
     pub fn is_in_range(self) -> bool
         ensures { result ≡ point_in self }
     {
@@ -44,9 +45,7 @@ impl<'a> Points<'a> {
         ensures size { map_answer (λ _. tt {0}) (answer result) ≡ even_points (length xs.now) (length ys.now) }
         ensures lists { IfOk result (λ p. (p.xs.now ≡ xs.now) × (p.ys.now ≡ ys.now)) }
     {
-        if xs.len() != ys.len() {
-            return Err(Refusal::UnequalLists);
-        }
+        even_check(xs.len(), ys.len())?;
         Ok(Points { xs, ys })
     }
 
@@ -74,13 +73,21 @@ pub fn ring_check(xs: &[f64], ys: &[f64]) -> Result<(), Refusal>
     Ok(())
 }
 
-// 16 and 2, from the lists' lengths.
-pub fn ring_size(m: usize, n: usize) -> Result<(), Refusal>
-    ensures { answer result ≡ ring_size m n }
+// 16, from the lists' lengths.
+fn even_check(m: usize, n: usize) -> Result<(), Refusal>
+    ensures { answer result ≡ even_points m n }
 {
     if m != n {
         return Err(Refusal::UnequalLists);
     }
+    Ok(())
+}
+
+// 16 and 2, from the lists' lengths.
+pub fn ring_size(m: usize, n: usize) -> Result<(), Refusal>
+    ensures { answer result ≡ ring_size m n }
+{
+    even_check(m, n)?;
     if m > 512 {
         return Err(Refusal::ListTooLong);
     }

@@ -1,8 +1,8 @@
-// Why a call is turned down.
+// Why a call is refused.
 ghost use Rattle.std.specs.Prelude.{◌≡◌};
 ghost use Rattle.openrdson_core.specs.Refusals.{refusal_number};
 
-// A case for each of document 01's numbers, in their order from 1 to 16.
+// The refusals in the order of their numbers, from 1 to 16. include/openrdson.h says what each number means.
 #[derive(Clone, Copy, Debug, PartialEq, Eq)]
 pub enum Refusal {
     NumberOutOfRange,
@@ -26,7 +26,7 @@ pub enum Refusal {
 impl From<Refusal> for u32 {
     ghost from_gives = { λ why n. n ≡ refusal_number why };
 
-    // Document 01's number.
+    // The refusal's number.
     fn from(why: Refusal) -> u32 {
         match why {
             Refusal::NumberOutOfRange => 1,

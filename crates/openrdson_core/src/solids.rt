@@ -1,12 +1,13 @@
 // Solids, and the regions that carry them.
 ghost use Rattle.std.specs.Prelude.{◌≡◌, length};
 ghost use Rattle.lists.specs.Answer.{map_answer};
+ghost use Rattle.binary64.specs.Numbers.{◌⊖◌, ◌⊗◌, abs};
 ghost use Rattle.openrdson_core.specs.Solids as spec;
 ghost use Rattle.openrdson_core.specs.Answers.{answer};
 
 use crate::area::polygon_area;
 use crate::bounds::Bbox;
-use crate::points::{Point, Points};
+use crate::points::Points;
 use crate::refusals::Refusal;
 
 // A material's number, from 1; 0 is unassigned.
@@ -17,7 +18,7 @@ pub struct Material(pub u32);
 #[derive(Clone, Copy, Debug, PartialEq, Eq)]
 pub struct PolygonNumber(pub u32);
 
-// Two heights.
+// The heights of a solid's bottom and of its top.
 #[derive(Clone, Copy, Debug, PartialEq)]
 pub struct Heights {
     pub bottom: f64,
@@ -25,7 +26,7 @@ pub struct Heights {
 }
 
 impl Heights {
-    // Both are in range.
+    // Whether both are finite and at most 2^20 in size.
     pub fn is_in_range(self) -> bool
         ensures { result ≡ spec.heights_in self.bottom self.top }
     {
@@ -40,6 +41,21 @@ impl Heights {
             return Err(Refusal::NumberOutOfRange);
         }
         Ok(())
+    }
+
+    // The volume between them over a rectangle.
+    pub fn volume_over_box(self, sides: Bbox) -> f64
+        ensures { result ≡ abs ((sides.max_x ⊖ sides.min_x) ⊗ (sides.max_y ⊖ sides.min_y) ⊗ (self.top ⊖ self.bottom)) }
+    {
+        let area = (sides.max_x - sides.min_x) * (sides.max_y - sides.min_y);
+        binary64::abs(area * (self.top - self.bottom))
+    }
+
+    // The volume between them over an area.
+    pub fn volume_over_area(self, area: f64) -> f64
+        ensures { result ≡ area ⊗ abs (self.top ⊖ self.bottom) }
+    {
+        area * binary64::abs(self.top - self.bottom)
     }
 }
 
@@ -62,6 +78,13 @@ pub enum Solid {
     },
 }
 
+// What a solid stands on: a box on its sides, a prism on a ring, a part of the point lists.
+#[derive(Clone, Copy, Debug, PartialEq)]
+pub enum Footprint {
+    Sides(Bbox),
+    Ring { start: u32, count: u32 },
+}
+
 // A solid with its material, its net (the caller's number, 0 for none) and the polygon it came from.
 #[derive(Clone, Copy, Debug, PartialEq)]
 pub struct SolidRegion {
@@ -72,6 +95,20 @@ pub struct SolidRegion {
 }
 
 impl Solid {
+    // The box with these sides between two heights.
+    pub fn of_box(sides: Bbox, heights: Heights) -> Solid
+        ensures { result ≡ spec.box_of sides heights.bottom heights.top }
+    {
+        Solid::Box {
+            min_x: sides.min_x,
+            min_y: sides.min_y,
+            max_x: sides.max_x,
+            max_y: sides.max_y,
+            z_bottom: heights.bottom,
+            z_top: heights.top,
+        }
+    }
+
     // The two heights.
     pub fn heights(self) -> Heights
         ensures { result ≡ spec.heights_of self }
@@ -93,24 +130,9 @@ impl Solid {
         }
     }
 
-    // The lower height.
-    pub fn z_bottom(self) -> f64
-        ensures { result ≡ spec.z_bottom_of self }
-    {
-        self.heights().bottom
-    }
-
-    // The upper height.
-    pub fn z_top(self) -> f64
-        ensures { result ≡ spec.z_top_of self }
-    {
-        self.heights().top
-    }
-
-    // The bounds of the footprint. A prism's points are a part of the lists xs and ys.
-    #[tactic(auto, unfolding(crate::specs::Solids::footprint))]
-    pub fn footprint_bbox(self, xs: &[f64], ys: &[f64]) -> Result<Bbox, Refusal>
-        ensures { answer result ≡ spec.of_solid xs.now ys.now self (spec.footprint xs.now ys.now self) }
+    // What it stands on, and its heights.
+    pub fn parts(self) -> (Footprint, Heights)
+        ensures { self ≡ spec.solid_on result.0 result.1 }
     {
         let heights = self.heights();
         match self {
@@ -127,10 +149,39 @@ impl Solid {
                     max_x,
                     max_y,
                 };
+                (Footprint::Sides(sides), heights)
+            }
+            Solid::Prism { start, count, .. } => (Footprint::Ring { start, count }, heights),
+        }
+    }
+
+    // The height of its bottom.
+    pub fn z_bottom(self) -> f64
+        ensures { result ≡ spec.z_bottom_of self }
+    {
+        self.heights().bottom
+    }
+
+    // The height of its top.
+    pub fn z_top(self) -> f64
+        ensures { result ≡ spec.z_top_of self }
+    {
+        self.heights().top
+    }
+
+    // The bounds of the footprint; a prism's points are a part of the lists xs and ys; 16, 15, 2, 1. The cases are those of `volume`: one judgement for both
+    // would test a ring's points twice, since `polygon_area` tests them beside its sum.
+    #[tactic(auto, unfolding(crate::specs::Solids::footprint))]
+    pub fn footprint_bbox(self, xs: &[f64], ys: &[f64]) -> Result<Bbox, Refusal>
+        ensures { answer result ≡ spec.of_solid xs.now ys.now self (spec.footprint xs.now ys.now self) }
+    {
+        let (footprint, heights) = self.parts();
+        match footprint {
+            Footprint::Sides(sides) => {
                 box_check(sides, heights, xs, ys)?;
                 Ok(sides)
             }
-            Solid::Prism { start, count, .. } => {
+            Footprint::Ring { start, count } => {
                 let part = part_of(start, count, xs, ys)?;
                 let bounds = Bbox::from_points(part.xs, part.ys)?;
                 heights.check()?;
@@ -139,42 +190,29 @@ impl Solid {
         }
     }
 
-    // The volume. A prism's points are a part of the lists xs and ys.
+    // The volume; a prism's points are a part of the lists xs and ys; 16, 15, 2, 1.
     #[tactic(auto, unfolding(crate::specs::Solids::volume))]
     pub fn volume(self, xs: &[f64], ys: &[f64]) -> Result<f64, Refusal>
         ensures { answer result ≡ spec.of_solid xs.now ys.now self (spec.volume xs.now ys.now self) }
     {
-        let heights = self.heights();
-        let height = heights.top - heights.bottom;
-        match self {
-            Solid::Box {
-                min_x,
-                min_y,
-                max_x,
-                max_y,
-                ..
-            } => {
-                let sides = Bbox {
-                    min_x,
-                    min_y,
-                    max_x,
-                    max_y,
-                };
+        let (footprint, heights) = self.parts();
+        match footprint {
+            Footprint::Sides(sides) => {
                 box_check(sides, heights, xs, ys)?;
-                Ok(binary64::abs((max_x - min_x) * (max_y - min_y) * height))
+                Ok(heights.volume_over_box(sides))
             }
-            Solid::Prism { start, count, .. } => {
+            Footprint::Ring { start, count } => {
                 let part = part_of(start, count, xs, ys)?;
                 let area = polygon_area(part.xs, part.ys)?;
                 heights.check()?;
-                Ok(area * binary64::abs(height))
+                Ok(heights.volume_over_area(area))
             }
         }
     }
 }
 
 impl SolidRegion {
-    // The volume of its solid.
+    // The volume of its solid; 16, 15, 2, 1.
     pub fn volume(self, xs: &[f64], ys: &[f64]) -> Result<f64, Refusal>
         ensures { answer result ≡ spec.of_solid xs.now ys.now self.solid (spec.volume xs.now ys.now self.solid) }
     {
@@ -182,14 +220,12 @@ impl SolidRegion {
     }
 }
 
-// Whether anything is against a box beside the point lists: 16, 2, 1.
+// Whether anything is against a box and the point lists lent with it: 16, 2, 1.
 fn box_check(sides: Bbox, heights: Heights, xs: &[f64], ys: &[f64]) -> Result<(), Refusal>
     ensures { answer result ≡ spec.box_fault (length xs.now) (length ys.now) sides heights.bottom heights.top }
 {
     part_of(0, 0, xs, ys)?;
-    let low = Point::new(sides.min_x, sides.min_y);
-    let high = Point::new(sides.max_x, sides.max_y);
-    if !(low.is_in_range() & high.is_in_range()) {
+    if !sides.is_in_range() {
         return Err(Refusal::NumberOutOfRange);
     }
     heights.check()

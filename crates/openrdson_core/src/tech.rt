@@ -7,7 +7,7 @@ ghost use Rattle.openrdson_core.specs.Maps.{spanned, span_within, span_from};
 ghost use Rattle.openrdson_core.specs.Tech as spec;
 ghost use Rattle.openrdson_core.specs.Answers.{answer};
 
-use crate::blocks::{Cell, Keys, is_block, rows};
+use crate::blocks::{Cell, Keys, block_check, rows};
 use crate::bytes::is_zero;
 use crate::layout::LayerNames;
 use crate::maps::{LayerMap, Span};
@@ -42,6 +42,7 @@ pub struct Vias<'a> {
     ghost sound: { vias_ok bytes.now ≡ true },
 }
 
+// The binary64 that eight bytes stand for, little-endian.
 #[tactic(auto, using(crate::proofs::ByteLaws::eight_bytes))]
 fn float_at(c: &[u8]) -> f64
     requires { length c.now ≡ 8 }
@@ -51,7 +52,7 @@ fn float_at(c: &[u8]) -> f64
     binary64::from_bits(u64::from_le_bytes(bytes))
 }
 
-// The figures of a stack entry.
+// The figures of a stack entry: 17 bytes, as `width` (blocks.rt) says, a flag and two numbers of eight.
 fn entry_at(c: &[u8]) -> Figures
     requires { length c.now ≡ 17 }
     ensures { result ≡ spec.figures_of c.now }
@@ -82,9 +83,7 @@ impl<'a> Stack<'a> {
         ensures fault { map_answer (λ _. tt {0}) (answer result) ≡ unless (stack_ok bytes.now) 14 (given tt) }
         ensures bytes { IfOk result (λ b. b.bytes.now ≡ bytes.now) }
     {
-        if !is_block(bytes, Cell::Name, Cell::Figures, false) {
-            return Err(Refusal::BlockDamaged);
-        }
+        block_check(bytes, Cell::Name, Cell::Figures, false)?;
         Ok(Stack { bytes })
     }
 
@@ -97,21 +96,17 @@ impl<'a> Stack<'a> {
     }
 
     // Whether its present figures are finite and at most 2^19 in size.
-    #[tactic(auto, using(lists::proofs::Scans::all_start, lists::proofs::Scans::all_more, crate::proofs::BlockLaws::block_counts), unfolding(crate::specs::Tech::stack_in))]
     pub fn is_in_range(self) -> bool
         ensures { result ≡ spec.stack_in self.entry.bytes.now }
     {
         let n = self.rows();
-        for i in 0..n {
+        (0..n).all(|i| {
             let at = 2 + n * 32 + i * 17;
-            if !are_figures_in(&self.bytes[at..at + 17]) {
-                return false;
-            }
-        }
-        true
+            are_figures_in(&self.bytes[at..at + 17])
+        })
     }
 
-    // The first row of a name.
+    // The first row of a name. `Vias` has `rows` and `find_row` too: each is one call, which rests on what is known of its own type.
     #[tactic(auto, using(crate::proofs::BlockLaws::block_counts))]
     fn find_row(self, name: &[u8]) -> Option<usize>
         ensures { result ≡ row_of self.entry.bytes.now name.now }
@@ -162,9 +157,7 @@ impl<'a> Vias<'a> {
         ensures fault { map_answer (λ _. tt {0}) (answer result) ≡ unless (vias_ok bytes.now) 14 (given tt) }
         ensures bytes { IfOk result (λ b. b.bytes.now ≡ bytes.now) }
     {
-        if !is_block(bytes, Cell::Name, Cell::Ends, false) {
-            return Err(Refusal::BlockDamaged);
-        }
+        block_check(bytes, Cell::Name, Cell::Ends, false)?;
         Ok(Vias { bytes })
     }
 

@@ -8,19 +8,19 @@ use crate::entry::Entry;
 use crate::record::Record;
 use openrdson_core::{Bbox, Counts, Figures, Material, NamePlace, Refusal, Span, ViaLayers};
 
-// 0 or the refusal's number, five values, 0 where unused, and two zeros.
+// 0 or the refusal's number; five values, 0 where unused; two zeros.
 #[derive(Clone, Copy)]
 pub struct Answer(pub [u64; 8]);
 
 impl Answer {
-    // What a call gives.
+    // The answer of an accepted call with these values.
     fn given(a: u64, b: u64, c: u64, d: u64, e: u64) -> Self
         ensures { result.0 ≡ spec.given a b c d e }
     {
         Self([0, a, b, c, d, e, 0, 0])
     }
 
-    // One whole number.
+    // The answer of an accepted call with one whole number.
     fn whole(a: u64) -> Self
         ensures { result.0 ≡ spec.given a 0 0 0 0 }
     {
@@ -33,7 +33,7 @@ impl Answer {
         Self([u64::from(u32::from(why)), 0, 0, 0, 0, 0, 0, 0])
     }
 
-    // Whether the record begins with it.
+    // Whether the record begins with this answer; the words past a record's end are 0.
     pub fn is_recorded(self, record: Record<'_>) -> bool
         ensures { result ≡ begins (λ w. w) «record».entry.0.now self.0 }
     {
@@ -49,7 +49,7 @@ impl From<Refusal> for Answer {
     }
 }
 
-// What the call gives, or why it gives nothing.
+// The value, or the refusal.
 impl<T: Into<Answer>> From<Result<T, Refusal>> for Answer {
     ghost from_gives = { λ given a. MatchResult given (λ x. T.converts x a) (λ why. a.0 ≡ spec.refused (refusal_number why)) };
 
@@ -61,7 +61,7 @@ impl<T: Into<Answer>> From<Result<T, Refusal>> for Answer {
     }
 }
 
-// All 0 where there is none.
+// The value, or 0 in every word where there is none.
 impl<T: Into<Answer>> From<Option<T>> for Answer {
     ghost from_gives = { λ given a. MatchOption given (a.0 ≡ spec.given 0 0 0 0 0) (λ x. T.converts x a) };
 
@@ -105,7 +105,7 @@ impl From<f64> for Answer {
     }
 }
 
-// Yes is 1, no is 0.
+// 1 for true, 0 for false.
 impl From<bool> for Answer {
     ghost from_gives = { λ b a. a.0 ≡ spec.given (spec.bit b) 0 0 0 0 };
 
@@ -136,7 +136,7 @@ impl From<Bbox> for Answer {
     }
 }
 
-// The value's word is not used.
+// The first value's word is not used.
 impl From<Counts> for Answer {
     ghost from_gives = { λ n a. a.0 ≡ spec.given 0 n.nodes n.elements 0 0 };
 
@@ -154,7 +154,7 @@ impl From<Span> for Answer {
     }
 }
 
-// The map's number, and the part's start and count.
+// The map's number, and the part's start and count. In c_api the numbers stand once more: there they are written through references.
 impl From<NamePlace> for Answer {
     ghost from_gives = { λ place a. a.0 ≡ spec.of_name place };
 

@@ -9,11 +9,11 @@ pub trait Entry: Copy + Default {
 
     ghost to_word: { Self → ℕ };
 
-    // The entry of a word. A word that is none gives the type's largest, or what the impl says.
+    // The entry that a word stands for. A word past the type's largest number gives that number, if the impl does not say otherwise.
     fn of(word: u64) -> Self
         ensures { result ≡ of_word word };
 
-    // Its word.
+    // The word that stands for the entry.
     fn word(self) -> u64
         ensures { result ≡ to_word self };
 }
@@ -93,7 +93,7 @@ impl Entry for usize {
     }
 }
 
-// By its two's complement, and 0 where a word is none.
+// By its two's complement; a word that stands for no i16 gives 0.
 impl Entry for i16 {
     ghost of_word = { spec.short_of };
 
@@ -109,7 +109,7 @@ impl Entry for i16 {
     }
 }
 
-// By its bit pattern, the same for every NaN.
+// By its bit pattern; every NaN has the same word.
 impl Entry for f64 {
     ghost of_word = { from_bits binary64 };
 

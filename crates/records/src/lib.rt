@@ -1,4 +1,4 @@
-// What the programs that replay records share: a record's words, its answer, the lists that a call is lent, and replaying and counting.
+// What the programs that replay records share: a record's words, an answer in such words, the lists that a call is lent, replaying and counting.
 #![tactic(auto)]
 
 mod answer;

@@ -12,7 +12,7 @@ use std::ops::Range;
 pub struct Record<'a>(pub &'a [u8]);
 
 impl<'a> Record<'a> {
-    // What stands from place i on.
+    // The record from word i on, empty past its end.
     #[tactic(auto, using(std::proofs::lemmas::Grind::common_steps))]
     pub fn after(self, i: usize) -> Self
         ensures { result.0.now ≡ spec.after self.entry.0.now i }
@@ -69,12 +69,13 @@ impl<'a> Record<'a> {
         self.at_most(i, 1024)
     }
 
-    // The sum of the words at these places, each `most` at most.
+    // The sum of the words at these places, each counted as `most` where it is above.
     pub fn sum(self, places: Range<usize>, most: usize) -> usize
         requires fits { most * (places.end - places.start) ≤ 65536 }
         ensures bound { result ≤ most * (places.end - places.start) }
         ensures value { result ≡ spec.sum_of most self.entry.0.now places.start (places.end - places.start) }
     {
+        // A loop: the check does not find that std's `sum` of these words fits.
         let mut sum = 0;
         for i in places.start..places.end {
             sum += self.at_most(i, most);
@@ -97,7 +98,7 @@ impl<'a> Record<'a> {
         self.0.get(part).unwrap_or(&[])
     }
 
-    // Where byte part i starts, of those whose lengths stand from word 1 on and whose bytes stand one after the other from byte `head` on.
+    // The byte where part i starts: the parts' lengths are the words from word 1 on, and their bytes stand one after the other from byte `head` on.
     fn part_start(self, head: usize, i: usize) -> usize
         requires head { head ≤ 288 }
         requires number { i ≤ 8 }
@@ -108,17 +109,17 @@ impl<'a> Record<'a> {
         head + self.sum(1..i, 1024)
     }
 
-    // Byte part i.
+    // The bytes of part i.
     pub fn part(self, head: usize, i: usize) -> &'a [u8]
         requires head { head ≤ 288 }
-        requires number { i ≤ 7 }
+        requires number { i ≤ 8 }
         ensures { result.now ≡ spec.part self.entry.0.now (spec.part_start self.entry.0.now head i) (spec.part_start self.entry.0.now head i + min 1024 (spec.word self.entry.0.now i)) }
     {
         let start = self.part_start(head, i);
         self.bytes(start..start + self.length(i))
     }
 
-    // The word after n byte parts and their padding.
+    // The first word after n parts and their padding.
     pub fn after_parts(self, head: usize, n: usize) -> usize
         requires head { head ≤ 288 }
         requires number { n ≤ 7 }
@@ -130,7 +131,7 @@ impl<'a> Record<'a> {
         self.part_start(head, n + 1).div_ceil(8)
     }
 
-    // Whether it begins with these entries.
+    // Whether the record begins with the words of these entries.
     pub fn begins<T: Entry>(self, entries: &[T]) -> bool
         ensures { result ≡ spec.begins T.to_word self.entry.0.now entries.now }
     {

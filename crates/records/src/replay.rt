@@ -15,19 +15,19 @@ pub trait Call<const N: usize, const M: usize>: Copy + Display + 'static {
     // How many bytes tell a record's size.
     const HEAD: usize;
 
-    // The calls in the order of the report.
+    // The number that stands for the first call in word 0. The next numbers stand for the others, in the order of `all`.
+    const FIRST: u64;
+
+    // The calls in the order of the report. Each impl names them: Rust has no list of an enum's cases.
     fn all() -> &'static [Self]
         ensures { length result.now ≡ N };
 
-    // The number that stands for the call in word 0.
-    fn number(self) -> u64;
-
-    // The bytes of a record that begins like this one.
+    // How many bytes a record that begins like this one has.
     fn size_of(record: Record<'_>) -> usize
         ensures low { HEAD ≤ result }
         ensures high { result ≤ M };
 
-    // Whether a record of the call has numbers and lists' lengths that it may have.
+    // Whether the numbers and the lists' lengths of a record of the call are ones that it may have.
     fn is_sound(self, record: Record<'_>) -> bool;
 
     // Whether the call answers what the record says.
@@ -35,7 +35,7 @@ pub trait Call<const N: usize, const M: usize>: Copy + Display + 'static {
 }
 
 // Reads on from place `from` to place `to` of the buffer, which must have both, and gives where the input ended.
-// What stands there is then the input's next bytes. The places before are kept, also where a read fails.
+// The bytes from `from` to that end are then the input's next ones. Those before `from` are kept, also where a read fails.
 pub fn read_on<R: Read>(
     input: &mut R,
     buffer: &mut [u8],
@@ -49,7 +49,7 @@ pub fn read_on<R: Read>(
     ensures before { take from buffer.new ≡ take from buffer.old }
 {
     let mut at = from;
-    // A while: only the reader knows how far a read comes, and std's `read_exact` says nothing of the bytes before an early end.
+    // A while: a read answers how many bytes it read, and std's `read_exact` says nothing of the bytes before an early end.
     while at < to {
         let more = input.read(&mut buffer[at..to])?;
         if more == 0 {
@@ -60,7 +60,7 @@ pub fn read_on<R: Read>(
     Ok(at)
 }
 
-// Reads the next record of the input, and gives how many bytes there were.
+// Reads the next record of the input, and gives how many bytes of it there were.
 fn read_record<const N: usize, const M: usize, C: Call<N, M>>(
     input: &mut impl Read,
     buffer: &mut [u8; M],
@@ -76,13 +76,15 @@ fn read_record<const N: usize, const M: usize, C: Call<N, M>>(
     read_on(input, buffer, n, size)
 }
 
-// Replays a record in the tally of its call, and gives false where it is damaged.
+// Replays a record, counts it in the tally of its call, and gives whether the record is sound.
 fn replay_record<const N: usize, const M: usize, C: Call<N, M>>(
     record: Record<'_>,
     tallies: &mut [Tally; N],
 ) -> bool {
-    let mut calls = C::all().iter().zip(tallies.iter_mut());
-    let Some((call, tally)) = calls.find(|(call, _)| call.number() == record.word(0)) else {
+    let Some(i) = record.word(0).checked_sub(C::FIRST) else {
+        return false;
+    };
+    let Some((call, tally)) = C::all().get(i as usize).zip(tallies.get_mut(i as usize)) else {
         return false;
     };
     if !call.is_sound(record) || record.0.len() != C::size_of(record) {
@@ -92,7 +94,7 @@ fn replay_record<const N: usize, const M: usize, C: Call<N, M>>(
     true
 }
 
-// Replays the records of the input up to the first damaged one, each in the tally of its call, and gives the tally of those that are damaged.
+// Replays the records of the input up to the first damaged one, each counted in the tally of its call, and gives the tally of the damaged one.
 fn replay<const N: usize, const M: usize, C: Call<N, M>>(
     input: &mut impl Read,
     buffer: &mut [u8; M],
@@ -114,7 +116,7 @@ fn replay<const N: usize, const M: usize, C: Call<N, M>>(
     Ok(damaged)
 }
 
-// Replays the records of the input, and prints how many there are of each call, and how many of them it answers otherwise.
+// Replays the records of the input, and prints of each call how many records there are and how many it answers otherwise.
 pub fn run<const N: usize, const M: usize, C: Call<N, M>>(
     rt: &impl Print,
     input: &mut impl Read,

@@ -34,7 +34,7 @@ impl Tally {
         self.cases > 0
     }
 
-    // Both together.
+    // The sum of both.
     pub fn plus(self, other: Self) -> Self
         ensures cases { result.cases ≡ more self.cases other.cases }
         ensures mismatches { result.mismatches ≡ more self.mismatches other.mismatches }

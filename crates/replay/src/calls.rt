@@ -1,11 +1,11 @@
-// The calls, and a record of each: the call's number, the lists' lengths, eight parameters, the lists, and the answer.
+// The calls, and a record of each: the call's number, the lengths of the two lists, eight parameters, the lists, and the answer.
 use openrdson_core::{Bbox, Solid};
 use records::{Answer, Record};
 use std::fmt;
 
 #[derive(Clone, Copy)]
 pub enum Call {
-    SignedArea = 1,
+    SignedArea,
     Area,
     IsCcw,
     IsRectangle,
@@ -83,6 +83,8 @@ impl Call {
 }
 
 impl records::Call<13, 16512> for Call {
+    const FIRST: u64 = 1;
+
     fn all() -> &'static [Self] {
         &[
             Call::SignedArea,
@@ -105,15 +107,11 @@ impl records::Call<13, 16512> for Call {
 
     const HEAD: usize = 24;
 
-    fn number(self) -> u64 {
-        self as u64
-    }
-
     fn size_of(record: Record<'_>) -> usize {
         (record.length(1) + record.length(2) + 16) * 8
     }
 
-    // Whether the lists are of at most 1,024 entries, and a prism's start and count are below 2^32.
+    // Whether the lists have at most 1,024 entries, and a prism's start and count are below 2^32.
     fn is_sound(self, record: Record<'_>) -> bool {
         let most = u64::from(u32::MAX);
         let is_prism = matches!(self, Call::PrismVolume | Call::PrismBounds);

@@ -10,7 +10,7 @@ use std::fmt;
 
 #[derive(Clone, Copy)]
 pub enum Call {
-    CheckBlocks = 14,
+    CheckBlocks,
     LookUp,
     PhysicalName,
     LayerName,
@@ -35,14 +35,14 @@ impl fmt::Display for Call {
     }
 }
 
-// The byte where the slices start, and how many there are.
+// The byte where the slices start, and below it how many slices a record has room for.
 const SLICES: usize = 72;
 
 const COUNT: usize = 7;
 
 // Slice i.
 fn slice(record: Record<'_>, i: usize) -> &[u8]
-    requires { i ≤ 7 }
+    requires { i ≤ 8 }
 {
     record.part(SLICES, i)
 }
@@ -61,7 +61,7 @@ impl Call {
         }
     }
 
-    // Whether the layer's number is an i16 where the call takes one, and 0 elsewhere.
+    // Whether the layer's number is an i16, for a call that takes one, or else 0.
     fn takes(self, layer: u64) -> bool {
         match self {
             Call::LayerName => i16::of(layer).word() == layer,
@@ -96,6 +96,8 @@ impl Call {
 }
 
 impl records::Call<8, 8256> for Call {
+    const FIRST: u64 = 14;
+
     fn all() -> &'static [Self] {
         &[
             Call::CheckBlocks,
@@ -113,15 +115,11 @@ impl records::Call<8, 8256> for Call {
 
     const HEAD: usize = 72;
 
-    fn number(self) -> u64 {
-        self as u64
-    }
-
     fn size_of(record: Record<'_>) -> usize {
         (record.after_parts(SLICES, COUNT) + 8) * 8
     }
 
-    // Whether the call's slices have at most 1,024 bytes and the others none, and the layer's number is right.
+    // Whether the call's slices have at most 1,024 bytes each and the others none, and the call takes the layer's number.
     fn is_sound(self, record: Record<'_>) -> bool {
         let n = self.slices();
         record.are_within(1..n + 1, 1024)

@@ -6,7 +6,7 @@ mod calls;
 use calls::Call;
 use std::io;
 
-// A program has a main of its own; `run` is what the four share.
+// What the four programs share is `run`.
 fn main(rt: HostRuntime) -> io::Result<()> {
     records::run::<8, 8256, Call>(&rt, &mut rt.stdin())
 }

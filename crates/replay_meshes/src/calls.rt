@@ -1,4 +1,4 @@
-// The calls.
+// The calls whose records are replayed.
 use crate::axes::{counted, measured};
 use crate::meshes::{is_recorded, meshed_box, meshed_prism};
 use crate::places::{are_numbers_in, size_of};
@@ -7,7 +7,7 @@ use std::fmt;
 
 #[derive(Clone, Copy)]
 pub enum Call {
-    CellCount = 44,
+    CellCount,
     AxisCoordinate,
     MeshBox,
     MeshPrism,
@@ -25,6 +25,8 @@ impl fmt::Display for Call {
 }
 
 impl records::Call<4, 20696> for Call {
+    const FIRST: u64 = 44;
+
     fn all() -> &'static [Self] {
         &[
             Call::CellCount,
@@ -38,15 +40,11 @@ impl records::Call<4, 20696> for Call {
 
     const HEAD: usize = 216;
 
-    fn number(self) -> u64 {
-        self as u64
-    }
-
     fn size_of(record: Record<'_>) -> usize {
         size_of(record)
     }
 
-    // Whether the numbers are right, also a prism's start and count, which are below 2^32.
+    // Whether the numbers are ones that a record may have; a prism's start and count are below 2^32.
     fn is_sound(self, record: Record<'_>) -> bool {
         let is_part_in = match self {
             Call::MeshPrism => record.are_within(21..23, u64::from(u32::MAX)),

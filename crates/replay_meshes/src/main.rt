@@ -9,7 +9,7 @@ mod places;
 use calls::Call;
 use std::io;
 
-// A program has a main of its own; `run` is what the four share.
+// What the four programs share is `run`.
 fn main(rt: HostRuntime) -> io::Result<()> {
     records::run::<4, 20696, Call>(&rt, &mut rt.stdin())
 }

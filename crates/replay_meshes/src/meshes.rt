@@ -4,7 +4,7 @@ use meshing::{MeshConfig, mesh_box, mesh_prism};
 use openrdson_core::{Bbox, Counts, Heights, Material, MeshLists, Refusal};
 use records::{Answer, Lent, Record};
 
-// A mesh's lists, of which a call is lent the record's lengths.
+// A mesh's lists. A call is lent as many entries of each as the record says.
 #[derive(Drop)]
 pub struct Mesh {
     xs: [f64; 64],
@@ -15,8 +15,15 @@ pub struct Mesh {
     regions: [u32; 32],
 }
 
+// The first n entries, or all where there are fewer.
+fn first<T, const N: usize>(list: &mut [T; N], n: usize) -> &mut [T] {
+    let all = list.as_mut_slice();
+    let n = n.min(all.len());
+    &mut all[..n]
+}
+
 impl Mesh {
-    // As they are before a call.
+    // The lists before a call.
     const BEFORE: Self = Self {
         xs: [f64::BEFORE; 64],
         ys: [f64::BEFORE; 64],
@@ -26,7 +33,19 @@ impl Mesh {
         regions: [u32::BEFORE; 32],
     };
 
-    // Whether the nodes are the record's.
+    // The lists as a call is lent them.
+    fn lent(&mut self, record: Record<'_>) -> MeshLists<'_> {
+        MeshLists {
+            xs: first(&mut self.xs, record.at(3)),
+            ys: first(&mut self.ys, record.at(4)),
+            zs: first(&mut self.zs, record.at(5)),
+            kinds: first(&mut self.kinds, record.at(6)),
+            places: first(&mut self.places, record.at(7)),
+            regions: first(&mut self.regions, record.at(8)),
+        }
+    }
+
+    // Whether the nodes are the recorded ones.
     fn are_nodes_recorded(&self, record: Record<'_>) -> bool {
         let at = nodes_place(record);
         let n = nodes(record).len();
@@ -35,7 +54,7 @@ impl Mesh {
             && record.is_left(at + 2 * n, &self.zs, nodes(record))
     }
 
-    // Whether the elements are.
+    // Whether the elements are the recorded ones.
     fn are_elements_recorded(&self, record: Record<'_>) -> bool {
         let at = elements_place(record);
         let new = elements(record);
@@ -47,7 +66,7 @@ impl Mesh {
     }
 }
 
-// The nodes and elements that the record's mesh has.
+// How many nodes and elements the mesh has before the call.
 fn counts(record: Record<'_>) -> Counts {
     Counts {
         nodes: record.at(9),
@@ -78,14 +97,6 @@ pub fn meshed_box(record: Record<'_>) -> (Result<Counts, Refusal>, Mesh) {
         lateral_cell: record.at(17),
         z_cell: record.at(18),
     };
-    let mut lists = MeshLists {
-        xs: &mut mesh.xs[..record.at_most(3, 64)],
-        ys: &mut mesh.ys[..record.at_most(4, 64)],
-        zs: &mut mesh.zs[..record.at_most(5, 64)],
-        kinds: &mut mesh.kinds[..record.at_most(6, 32)],
-        places: &mut mesh.places[..record.at_most(7, 256)],
-        regions: &mut mesh.regions[..record.at_most(8, 32)],
-    };
     let meshed = mesh_box(
         bounds(record),
         heights(record),
@@ -93,7 +104,7 @@ pub fn meshed_box(record: Record<'_>) -> (Result<Counts, Refusal>, Mesh) {
         record.at(20),
         config,
         counts(record),
-        &mut lists,
+        &mut mesh.lent(record),
     );
     (meshed, mesh)
 }
@@ -104,14 +115,6 @@ pub fn meshed_prism(record: Record<'_>) -> (Result<Counts, Refusal>, Mesh) {
     let xs = record.list::<f64, 1024>(POINTS, m);
     let ys = record.list::<f64, 1024>(POINTS + m, record.length(2));
     let mut mesh = Mesh::BEFORE;
-    let mut lists = MeshLists {
-        xs: &mut mesh.xs[..record.at_most(3, 64)],
-        ys: &mut mesh.ys[..record.at_most(4, 64)],
-        zs: &mut mesh.zs[..record.at_most(5, 64)],
-        kinds: &mut mesh.kinds[..record.at_most(6, 32)],
-        places: &mut mesh.places[..record.at_most(7, 256)],
-        regions: &mut mesh.regions[..record.at_most(8, 32)],
-    };
     let meshed = mesh_prism(
         &xs,
         &ys,
@@ -121,12 +124,13 @@ pub fn meshed_prism(record: Record<'_>) -> (Result<Counts, Refusal>, Mesh) {
         Material(record.at(19)),
         record.at(20),
         counts(record),
-        &mut lists,
+        &mut mesh.lent(record),
     );
     (meshed, mesh)
 }
 
-// Whether a call answers what the record says, and leaves the mesh as it says. The answer's last words are past the head's end.
+// Whether a call answers what the record says, and leaves the mesh as it says. The answer's last four words
+// are past the end of the head, which is 0.
 pub fn is_recorded(record: Record<'_>, (meshed, mesh): (Result<Counts, Refusal>, Mesh)) -> bool {
     let head = Record(record.bytes(0..8 * POINTS));
     mesh.are_nodes_recorded(record)

@@ -1,13 +1,13 @@
-// Where the parts of a record stand. Its first 27 words are the call's number; the lengths of the point lists (1 and 2) and of the mesh's lists (3 to 8: xs, ys,
-// zs, kinds, node places, regions); the mesh's nodes and elements (9, 10); six floats (11 to 16) and two cell sizes (17, 18); a material, a region's number, and a
-// part's start and count (19 to 22); the status, a value, and the mesh's nodes and elements after the call (23 to 26), both 0 where it refuses.
-// Then the points follow, and what the call writes: xs, ys and zs of the nodes, then kinds, node places and regions of the elements.
+// Where the parts of a record stand. Its head is 27 words: the call's number (word 0); the lengths of the point lists (1, 2) and of the mesh's lists (3 to 8:
+// xs, ys, zs, kinds, node places, regions); the mesh's nodes and elements (9, 10); six floats (11 to 16) and two cell sizes (17, 18); a material, a region's
+// number, and a part's start and count (19 to 22); the status, a value, and the mesh's nodes and elements after the call (23 to 26), both 0 where it refuses.
+// Then stand the points, and what the call writes: xs, ys and zs of the nodes, then kinds, node places and regions of the elements.
 ghost use Rattle.std.specs.Prelude.{◌≤◌};
 
 use records::Record;
 use std::ops::Range;
 
-// The nodes that the call writes.
+// The places of the nodes that the call writes.
 pub fn nodes(record: Record<'_>) -> Range<usize>
     ensures start { result.start ≤ 64 }
     ensures end { result.end ≤ 64 }
@@ -15,7 +15,7 @@ pub fn nodes(record: Record<'_>) -> Range<usize>
     record.at_most(9, 64)..record.at_most(25, 64)
 }
 
-// The elements that the call writes.
+// The places of the elements that the call writes.
 pub fn elements(record: Record<'_>) -> Range<usize>
     ensures start { result.start ≤ 32 }
     ensures end { result.end ≤ 32 }
@@ -42,7 +42,7 @@ pub fn elements_place(record: Record<'_>) -> usize
     nodes_place(record) + 3 * nodes(record).len()
 }
 
-// The bytes of a record with these lists.
+// How many bytes a record with these lists has.
 pub fn size_of(record: Record<'_>) -> usize
     ensures low { 216 ≤ result }
     ensures high { result ≤ 20696 }
@@ -57,7 +57,7 @@ fn is_mesh_in(record: Record<'_>) -> bool {
     are_nodes_in && are_elements_in && record.word(26) <= 32
 }
 
-// Whether the mesh has, the point lists have at most 1,024 entries, and the material and the region's number are below 2^32.
+// Whether the mesh has no more than that, the point lists have at most 1,024 entries, and the material and the region's number are below 2^32.
 pub fn are_numbers_in(record: Record<'_>) -> bool {
     let most = u64::from(u32::MAX);
     record.are_within(1..3, 1024) && record.are_within(19..21, most) && is_mesh_in(record)

@@ -1,4 +1,4 @@
-// The calls.
+// The calls whose records are replayed.
 use crate::extrusions::{is_box_answered, is_polygon_answered};
 use crate::places::{are_lengths_in, size_of};
 use crate::stacks::is_stack_answered;
@@ -8,7 +8,7 @@ use std::fmt;
 
 #[derive(Clone, Copy)]
 pub enum Call {
-    ExtrudePolygon = 40,
+    ExtrudePolygon,
     ExtrudeBox,
     TotalVolume,
     AssembleStack,
@@ -26,6 +26,8 @@ impl fmt::Display for Call {
 }
 
 impl records::Call<4, 24992> for Call {
+    const FIRST: u64 = 40;
+
     fn all() -> &'static [Self] {
         &[
             Call::ExtrudePolygon,
@@ -38,10 +40,6 @@ impl records::Call<4, 24992> for Call {
     ghost HEAD = { 288 };
 
     const HEAD: usize = 288;
-
-    fn number(self) -> u64 {
-        self as u64
-    }
 
     fn size_of(record: Record<'_>) -> usize {
         size_of(record)

@@ -2,41 +2,21 @@
 ghost use Rattle.std.specs.Prelude.{◌≤◌};
 
 use crate::places::{List, Points};
-use geometry::{extrude_box, extrude_polygon};
+use geometry::{Columns, extrude_box, extrude_polygon};
 use openrdson_core::{Bbox, Heights, Material, PolygonNumber, Refusal, Solid, SolidRegion};
 use records::{Answer, Entry, Record};
 
-// A solid's words, its kind first: a prism's first four bounds and a box's start and count are zero.
+// A solid's words, its kind first.
 fn solid_words(solid: Solid) -> [u64; 9] {
-    match solid {
-        Solid::Box {
-            min_x,
-            min_y,
-            max_x,
-            max_y,
-            z_bottom,
-            z_top,
-        } => {
-            let [x0, y0, x1, y1] = [min_x, min_y, max_x, max_y].map(Entry::word);
-            [0, x0, y0, x1, y1, z_bottom.word(), z_top.word(), 0, 0]
-        }
-        Solid::Prism {
-            z_bottom,
-            z_top,
-            start,
-            count,
-        } => [
-            1,
-            0,
-            0,
-            0,
-            0,
-            z_bottom.word(),
-            z_top.word(),
-            start.word(),
-            count.word(),
-        ],
-    }
+    let columns = Columns::from(solid);
+    let heights = solid.heights();
+    let kind = u8::from(columns.kind).word();
+    let start = columns.part.start.word();
+    let count = columns.part.count.word();
+    let sides = columns.sides;
+    let [x0, y0, x1, y1] = [sides.min_x, sides.min_y, sides.max_x, sides.max_y].map(Entry::word);
+    let [z0, z1] = [heights.bottom, heights.top].map(Entry::word);
+    [kind, x0, y0, x1, y1, z0, z1, start, count]
 }
 
 // Whether the row begins with this region.
@@ -50,14 +30,14 @@ fn is_row(row: Record<'_>, region: SolidRegion) -> bool {
     row.begins(&solid_words(solid)) & row.after(9).begins(&[material, net, polygon])
 }
 
-// Whether the record says this: the status, one row and the region in it, or no row.
+// Whether the record has this answer: the status, one row and the region in it, or no row.
 fn is_recorded(record: Record<'_>, built: Result<SolidRegion, Refusal>) -> bool {
     let row = record.after(List::Kinds.place(record));
     let said = [record.word(34), record.word(13), 0, 0, 0, 0, 0, 0];
     Answer::from(built.map(|_| 1u64)).0 == said && built.map_or(true, |region| is_row(row, region))
 }
 
-// The heights at place i.
+// The heights in words i and i + 1.
 fn heights(record: Record<'_>, i: usize) -> Heights
     requires { i ≤ 30 }
 {
@@ -80,7 +60,7 @@ pub fn is_polygon_answered(record: Record<'_>) -> bool {
     is_recorded(record, built)
 }
 
-// Whether `extrude_box` does.
+// Whether `extrude_box` answers what the record says.
 pub fn is_box_answered(record: Record<'_>) -> bool {
     let sides = Bbox {
         min_x: record.at(26),

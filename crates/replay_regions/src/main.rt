@@ -10,7 +10,7 @@ mod totals;
 use calls::Call;
 use std::io;
 
-// A program has a main of its own; `run` is what the four share.
+// What the four programs share is `run`.
 fn main(rt: HostRuntime) -> io::Result<()> {
     records::run::<4, 24992, Call>(&rt, &mut rt.stdin())
 }

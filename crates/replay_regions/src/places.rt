@@ -1,12 +1,13 @@
-// Where the parts of a record stand. Its first 36 words are the call's number, the lengths of its lists (1 to 6 the blocks, in bytes; 7 and 8 the points;
-// 9 to 12 the polygons; 13 to 24 the regions; 25 the outcomes), six floats, a material, a net, the status, and a value, 0 where the call refuses. Then the lists follow in this order.
+// Where the parts of a record stand. Its head is 36 words: the call's number (word 0); the lengths of its lists (1 to 6 the blocks, in bytes; 7 and 8 the
+// points; 9 to 12 the polygons; 13 to 24 the regions; 25 the outcomes); six floats (26 to 31), a material and a net (32, 33); the status, and a value, which
+// is 0 where the call refuses (34, 35). Then the lists stand in this order.
 ghost use Rattle.std.specs.Prelude.{◌≤◌};
 
 use arrayvec::ArrayVec;
 use openrdson_core::Blocks;
 use records::{Entry, Record};
 
-// The byte where the blocks start, and how many there are.
+// The byte where the blocks start, and below it how many blocks a record has.
 const BLOCKS: usize = 288;
 
 const COUNT: usize = 6;
@@ -31,7 +32,7 @@ fn points_place(record: Record<'_>) -> usize
     record.after_parts(BLOCKS, COUNT)
 }
 
-// The lists after the points: the polygons', the regions' and the outcomes. Each has the number of the word with its length.
+// The lists after the points: those of the polygons, those of the regions, and the outcomes. A case's number is that of the word with the list's length.
 #[derive(Clone, Copy)]
 pub enum List {
     Layers = 9,
@@ -54,7 +55,7 @@ pub enum List {
 }
 
 impl List {
-    // The word of its length.
+    // The word with the list's length.
     fn word(self) -> usize
         ensures low { 9 ≤ result }
         ensures high { result ≤ 25 }
@@ -62,14 +63,14 @@ impl List {
         self as usize
     }
 
-    // Its length, or 16 where it is longer.
+    // The list's length, or 16 where it is longer.
     pub fn length(self, record: Record<'_>) -> usize
         ensures { result ≤ 16 }
     {
         record.at_most(self.word(), 16)
     }
 
-    // The word where it starts.
+    // The word where the list starts.
     pub fn place(self, record: Record<'_>) -> usize
         ensures low { 36 ≤ result }
         ensures high { result ≤ 3108 }
@@ -77,13 +78,13 @@ impl List {
         points_place(record) + record.sum(7..9, 1024) + record.sum(9..self.word(), 16)
     }
 
-    // Its entries.
+    // The list's entries.
     pub fn entries<T: Entry>(self, record: Record<'_>) -> ArrayVec<T, 16> {
         record.list(self.place(record), self.length(record))
     }
 }
 
-// The bytes of a record with these lists.
+// How many bytes a record with these lists has.
 pub fn size_of(record: Record<'_>) -> usize
     ensures low { 288 ≤ result }
     ensures high { result ≤ 24992 }
@@ -91,12 +92,12 @@ pub fn size_of(record: Record<'_>) -> usize
     (List::Outcomes.place(record) + List::Outcomes.length(record)) * 8
 }
 
-// Whether the blocks and the points have at most 1,024 entries, and the other lists at most 16.
+// Whether the blocks and the point lists have at most 1,024 entries each, and the other lists at most 16.
 pub fn are_lengths_in(record: Record<'_>) -> bool {
     record.are_within(1..9, 1024) && record.are_within(9..26, 16)
 }
 
-// The status and the value, the last two words before the blocks.
+// The head from the status on: the status and the value.
 pub fn answered(record: Record<'_>) -> Record<'_> {
     Record(record.bytes(0..BLOCKS)).after(34)
 }
@@ -109,6 +110,7 @@ pub struct Points {
 }
 
 impl Points {
+    // The points of a record.
     pub fn of(record: Record<'_>) -> Self {
         let from = points_place(record);
         let m = record.length(7);

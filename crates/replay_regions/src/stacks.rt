@@ -1,10 +1,10 @@
-// Stacking: the record's region lists and outcomes are those after the call.
+// Stacking: the region lists and the outcomes of the record are those after the call.
 use crate::places::{List, Points, answered, blocks};
 use geometry::{Polygons, RegionLists, assemble_stack};
 use openrdson_core::Refusal;
 use records::{Answer, Lent, Record};
 
-// The region lists and the outcomes, of which the call is lent the record's lengths.
+// The region lists and the outcomes. The call is lent as many entries of each as the record says.
 #[derive(Drop)]
 struct Lists {
     kinds: [u8; 16],
@@ -28,7 +28,7 @@ fn is_list<T: Lent>(record: Record<'_>, list: List, entries: &[T; 16]) -> bool {
 }
 
 impl Lists {
-    // As they are before a call.
+    // The lists before a call.
     const BEFORE: Self = Self {
         kinds: [u8::BEFORE; 16],
         min_x: [f64::BEFORE; 16],
@@ -45,7 +45,7 @@ impl Lists {
         outcomes: [u8::BEFORE; 16],
     };
 
-    // Whether they are the record's.
+    // Whether the lists are the recorded ones.
     fn are_recorded(&self, record: Record<'_>) -> bool {
         is_list(record, List::Kinds, &self.kinds)
             && is_list(record, List::MinX, &self.min_x)

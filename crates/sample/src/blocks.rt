@@ -53,12 +53,8 @@ pub fn layers<const N: usize>(rows: &[(u8, &str)]) -> [u8; N]
     requires { N ≤ 4096 }
 {
     let mut block = Block::of(rows.len());
-    for (layer, _) in rows {
-        block.put(&[*layer, 0]);
-    }
-    for (_, name) in rows {
-        block.put_name(name);
-    }
+    rows.iter().for_each(|(layer, _)| block.put(&[*layer, 0]));
+    rows.iter().for_each(|(_, name)| block.put_name(name));
     block.whole()
 }
 
@@ -67,12 +63,9 @@ pub fn names<const N: usize>(rows: &[(&str, &str)]) -> [u8; N]
     requires { N ≤ 4096 }
 {
     let mut block = Block::of(rows.len());
-    for (logical, _) in rows {
-        block.put_name(logical);
-    }
-    for (_, physical) in rows {
-        block.put_name(physical);
-    }
+    rows.iter().for_each(|(logical, _)| block.put_name(logical));
+    rows.iter()
+        .for_each(|(_, physical)| block.put_name(physical));
     block.whole()
 }
 
@@ -81,15 +74,13 @@ pub fn stack<const N: usize>(rows: &[Layer<'_>]) -> [u8; N]
     requires { N ≤ 4096 }
 {
     let mut block = Block::of(rows.len());
-    for (name, _, _) in rows {
-        block.put_name(name);
-    }
-    for (_, height, thickness) in rows {
+    rows.iter().for_each(|(name, _, _)| block.put_name(name));
+    rows.iter().for_each(|(_, height, thickness)| {
         // Which figures are present: the height always.
         block.put(&[if thickness.is_some() { 3 } else { 1 }]);
         block.put_figure(*height);
         block.put_figure(thickness.unwrap_or(0.0));
-    }
+    });
     block.whole()
 }
 
@@ -98,12 +89,10 @@ pub fn vias<const N: usize>(rows: &[Via<'_>]) -> [u8; N]
     requires { N ≤ 4096 }
 {
     let mut block = Block::of(rows.len());
-    for (name, _, _) in rows {
-        block.put_name(name);
-    }
-    for (_, bottom, top) in rows {
+    rows.iter().for_each(|(name, _, _)| block.put_name(name));
+    rows.iter().for_each(|(_, bottom, top)| {
         block.put_name(bottom);
         block.put_name(top);
-    }
+    });
     block.whole()
 }

@@ -8,7 +8,7 @@ use crate::vtk::put_mesh;
 use std::env::FillError;
 use std::rt::{Env, Files};
 
-// Whether the program was started with an argument i.
+// Whether the program was started with an argument of number i.
 fn has_argument(rt: &impl Env, i: usize) -> bool {
     !matches!(rt.arg(i, &mut []), Err(FillError::NotPresent))
 }

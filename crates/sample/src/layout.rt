@@ -3,12 +3,12 @@
 
 use geometry::Polygons;
 
-// Those of six rectangles, the gate, the sliver, the pad and the shield.
+// The points of six rectangles, the gate, the sliver, the pad and the shield.
 pub const POINTS: usize = 6 * 4 + 6 + 3 + 8 + 12;
 
 pub const POLYGONS: usize = 16;
 
-// A polygon gives a region, but for four: a marker, a text, and those on a layer without a name and on one without a z range.
+// Each polygon gives a region but for four: a marker, a text, one on a layer without a name, and one on a layer without a z range.
 pub const REGIONS: usize = POLYGONS - 4;
 
 #[derive(Clone, Copy)]
@@ -66,6 +66,7 @@ pub struct Layout {
 }
 
 impl Layout {
+    // The polygons of the switch.
     pub fn of_switch() -> Self {
         Layout {
             layers: polygons().map(|p| p.layer),
@@ -75,7 +76,7 @@ impl Layout {
         }
     }
 
-    // Beside the points that they are parts of.
+    // The polygons, lent beside the points that they are parts of.
     pub fn polygons<'a>(&'a self, points: &'a Points) -> Polygons<'a> {
         Polygons {
             layers: &self.layers,
@@ -160,6 +161,7 @@ pub struct Points {
 }
 
 impl Points {
+    // The points of the switch.
     pub fn of_switch() -> Self {
         Points {
             xs: PLAN.map(|(x, _)| x),

@@ -43,10 +43,10 @@ pub fn layers() -> [Layer; 6] {
     ]
 }
 
-// The row of what is refused.
+// The height of the legend's row for refused regions.
 const REFUSED: u32 = 4500;
 
-// How a region is painted: in its layer's colour, or hatched where it has none since it was refused.
+// How a region is painted: in its layer's colour, or hatched, without a colour, where it is refused.
 #[derive(Clone, Copy)]
 pub struct Paint(pub Option<&'static str>);
 
@@ -71,7 +71,7 @@ const HEAD: &str = "\
 <g transform='translate(0 11000) scale(1 -1)' stroke-linejoin='round' stroke-width='20'>
 ";
 
-// All before the plan.
+// All that stands before the plan.
 pub fn put_head(out: &mut impl Write) -> io::Result<()> {
     out.write_all(HEAD.as_bytes())
 }
@@ -89,7 +89,7 @@ fn put_row(
     writeln!(out, "/><text x='800' y='320'>{label}</text></g>")
 }
 
-// A row for each layer and one for what is refused, and the scale.
+// A row for each layer and one for refused regions, and the scale.
 pub fn put_legend(out: &mut impl Write) -> io::Result<()> {
     writeln!(out, "<text x='9900' y='300'>material</text>")?;
     for layer in layers() {

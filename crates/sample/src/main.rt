@@ -7,6 +7,7 @@ mod layout;
 mod legend;
 mod mesh;
 mod out;
+mod outcome;
 mod regions;
 mod report;
 mod stack;

@@ -5,7 +5,7 @@ use crate::stack::CONTACT;
 use meshing::{MeshConfig, Overrides, mesh_model_with_options};
 use openrdson_core::{Counts, ElementType, MeshLists, Point3, Refusal};
 
-// How many nodes the mesh has: a box of a by b by c cells (a + 1)(b + 1)(c + 1), a clipped prism two a point, a scanned one eight a quad.
+// How many nodes the mesh has: a box of a by b by c cells has (a + 1)(b + 1)(c + 1), a clipped prism two a point, one by the scanline eight a quad.
 const NODES: usize = 5 * 5 * 2 // active area
     + 2 * 8 // gate
     + 2 * (3 * 13 * 3) // contacts
@@ -14,7 +14,7 @@ const NODES: usize = 5 * 5 * 2 // active area
     + 8 * 2 // pad
     + 3 * 4 * 3; // plate
 
-// How many elements: a box has as many as cells, a clipped prism two fewer than points, a scanned one two a quad.
+// How many elements: a box has as many as cells, a clipped prism two fewer than points, one by the scanline two a quad.
 const ELEMENTS: usize = 4 * 4 * 1 // active area
     + 2 * 2 // gate
     + 2 * (2 * 12 * 2) // contacts
@@ -23,11 +23,8 @@ const ELEMENTS: usize = 4 * 4 * 1 // active area
     + (8 - 2) // pad
     + 2 * 3 * 2; // plate
 
-// How many node places.
+// How many node places: eight an element.
 const PLACES: usize = 8 * ELEMENTS;
-
-// Stands for the region of an element that is not there.
-const NO_REGION: u32 = u32::MAX;
 
 // The mesh, and a diagnostic for each region.
 #[derive(Drop)]
@@ -62,7 +59,7 @@ impl Mesh {
         zs: [0.0; NODES],
         kinds: [0; ELEMENTS],
         places: [0; PLACES],
-        regions: [NO_REGION; ELEMENTS],
+        regions: [0; ELEMENTS],
         diagnostics: [0; REGIONS],
         counts: Counts {
             nodes: 0,
@@ -99,12 +96,12 @@ impl Mesh {
         Ok(Self { counts, ..to })
     }
 
-    // A node, or the origin where there is none.
-    pub fn node(&self, i: usize) -> Point3 {
-        let x = self.xs.get(i).copied().unwrap_or(0.0);
-        let y = self.ys.get(i).copied().unwrap_or(0.0);
-        let z = self.zs.get(i).copied().unwrap_or(0.0);
-        Point3 { x, y, z }
+    // Node i, if there is one.
+    pub fn node(&self, i: usize) -> Option<Point3> {
+        let x = *self.xs.get(i)?;
+        let y = *self.ys.get(i)?;
+        let z = *self.zs.get(i)?;
+        Some(Point3 { x, y, z })
     }
 
     // Element k, if there is one.
@@ -123,6 +120,7 @@ impl Mesh {
     pub fn elements_of(&self, region: usize) -> usize {
         self.regions
             .iter()
+            .take(self.counts.elements)
             .filter(|r| **r as usize == region)
             .count()
     }

@@ -8,10 +8,10 @@ use std::{io, str};
 
 const SIZE: usize = 4096;
 
-// Room for a file's name, which the system wants below this.
+// Room for a file's name; the system takes shorter ones only.
 const NAME: usize = 4096;
 
-// A writer that writes a full buffer at a time, as std's `BufWriter` does on the heap. What is left goes by `flush`.
+// A writer that hands on a full buffer at a time, as std's `BufWriter` does on the heap. What is left in it is written by `flush`.
 #[derive(Drop)]
 pub struct Pieces<W> {
     writer: W,
@@ -44,7 +44,7 @@ impl<W: Write> Write for Pieces<W> {
     }
 }
 
-// Argument i, a file's name, which is put at the start of a lent buffer.
+// Argument i, a file's name. Its bytes are put at the start of a lent buffer.
 fn argument<'a>(rt: &impl Env, i: usize, name: &'a mut [u8; NAME]) -> io::Result<&'a str> {
     match rt.arg(i, name) {
         Ok(n) => str::from_utf8(&name[..n]).map_err(|_| io::Error::from(ErrorKind::InvalidData)),

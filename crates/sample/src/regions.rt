@@ -1,4 +1,4 @@
-// The switch's regions: stacking them, and each by its number. The lists are as long as there are regions, and are lent whole.
+// The switch's regions: stacking them, and reading each by its number. The lists are as long as there are regions, and are lent whole.
 ghost use Rattle.std.specs.Prelude.{◌<◌, ◌≡◌, length};
 
 use crate::layout::{Layout, POINTS, POLYGONS, Points, REGIONS};
@@ -97,12 +97,12 @@ impl Regions {
         Some(region.solid)
     }
 
-    // A region's material, and 0 where there is no such region.
-    pub fn material(&self, region: u32) -> u32 {
-        self.materials.get(region as usize).copied().unwrap_or(0)
+    // A region's material, if there is such a region.
+    pub fn material(&self, region: u32) -> Option<u32> {
+        self.materials.get(region as usize).copied()
     }
 
-    // The volume of all.
+    // The volume of all regions.
     pub fn volume(&self, points: &Points) -> Result<f64, Refusal> {
         total_volume(self.lent(), &points.xs, &points.ys)
     }

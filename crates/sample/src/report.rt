@@ -1,8 +1,9 @@
-// The lines that are printed.
+// The lines that the program prints.
 ghost use Rattle.std.specs.Prelude.{◌<◌};
 
 use crate::layout::{Points, REGIONS};
 use crate::mesh::Mesh;
+use crate::outcome::Outcome;
 use crate::regions::Regions;
 use openrdson_core::{Refusal, Solid};
 use std::{fmt, io};
@@ -42,6 +43,7 @@ impl fmt::Display for Measured {
     }
 }
 
+// The volume of all regions.
 pub fn print_total(rt: &impl Print, points: &Points, regions: &Regions) -> io::Result<()> {
     let total = Measured("total volume: ", regions.volume(points));
     println!(rt; "{total}")
@@ -49,16 +51,10 @@ pub fn print_total(rt: &impl Print, points: &Points, regions: &Regions) -> io::R
 
 // What became of each polygon.
 pub fn print_outcomes(rt: &impl Print, regions: &Regions) -> io::Result<()> {
-    for (i, outcome) in regions.outcomes.iter().enumerate() {
-        let text = match *outcome {
-            0 => "0 box",
-            1 => "1 prism",
-            2 => "2 unnamed layer",
-            3 => "3 marker",
-            4 => "4 unmatched",
-            _ => "5 no z range",
-        };
-        println!(rt; "polygon {i}: {text}")?;
+    for (i, number) in regions.outcomes.iter().enumerate() {
+        if let Ok(outcome) = Outcome::try_from(*number) {
+            println!(rt; "polygon {i}: {outcome}")?;
+        }
     }
     Ok(())
 }

@@ -1,5 +1,5 @@
-// The switch's layer names, maps and stack. A block is as long as its rows: 2 bytes, then 34 a layer name, 64 a row of a map, 49 a conductor or
-// a diffusion, 96 a via.
+// The switch's layer names, maps and stack. A block has 2 bytes for its count, and then 34 a layer name, 64 a row of a map, 49 a conductor or a
+// diffusion, 96 a via.
 use crate::blocks;
 use openrdson_core::Blocks;
 
@@ -14,6 +14,7 @@ pub struct Stack {
 }
 
 impl Stack {
+    // The stack that the switch is made in.
     pub fn of_switch() -> Self {
         Self {
             // Layer 60 is a marker, and layer 63 is in neither map.
@@ -50,6 +51,7 @@ impl Stack {
         }
     }
 
+    // The six blocks, to be read.
     pub fn blocks(&self) -> Blocks<'_> {
         Blocks {
             names: &self.names,

@@ -22,9 +22,9 @@ impl fmt::Display for Length {
     }
 }
 
-// A path's step to a point.
-fn put_step(out: &mut impl Write, is_first: bool, x: f64, y: f64) -> io::Result<()> {
-    let letter = if is_first { 'M' } else { 'L' };
+// Step k of a path, to a point: the first moves there, the others draw.
+fn put_step(out: &mut impl Write, k: usize, x: f64, y: f64) -> io::Result<()> {
+    let letter = if k == 0 { 'M' } else { 'L' };
     let x = Length(x);
     let y = Length(y);
     write!(out, "{letter}{x} {y}")
@@ -34,7 +34,7 @@ fn put_step(out: &mut impl Write, is_first: bool, x: f64, y: f64) -> io::Result<
 fn put_ring(out: &mut impl Write, points: &Points, start: u32, count: u32) -> io::Result<()> {
     for i in 0..count {
         if let Some((x, y)) = points.at(start as usize + i as usize) {
-            put_step(out, i == 0, x, y)?;
+            put_step(out, i as usize, x, y)?;
         }
     }
     Ok(())
@@ -51,10 +51,10 @@ fn put_footprint(out: &mut impl Write, points: &Points, solid: Solid) -> io::Res
             z_bottom: _,
             z_top: _,
         } => {
-            put_step(out, true, min_x, min_y)?;
-            put_step(out, false, max_x, min_y)?;
-            put_step(out, false, max_x, max_y)?;
-            put_step(out, false, min_x, max_y)
+            put_step(out, 0, min_x, min_y)?;
+            put_step(out, 1, max_x, min_y)?;
+            put_step(out, 2, max_x, max_y)?;
+            put_step(out, 3, min_x, max_y)
         }
         Solid::Prism {
             z_bottom: _,
@@ -73,8 +73,9 @@ fn put_element(out: &mut impl Write, mesh: &Mesh, element: Element<'_>) -> io::R
     };
     let places = element.places;
     for (j, place) in places[..n].iter().enumerate() {
-        let node = mesh.node(*place as usize);
-        put_step(out, j == 0, node.x, node.y)?;
+        if let Some(node) = mesh.node(*place as usize) {
+            put_step(out, j, node.x, node.y)?;
+        }
     }
     out.write_all(b"Z")
 }
@@ -82,11 +83,12 @@ fn put_element(out: &mut impl Write, mesh: &Mesh, element: Element<'_>) -> io::R
 // The plan of a region's elements that stand at height z.
 fn put_elements(out: &mut impl Write, mesh: &Mesh, region: usize, z: f64) -> io::Result<()> {
     for k in 0..mesh.counts.elements {
-        if let Some(element) = mesh.element(k) {
-            let first = mesh.node(element.places[0] as usize);
-            if element.region as usize == region && first.z == z {
-                put_element(out, mesh, element)?;
-            }
+        if let Some(element) = mesh.element(k)
+            && let Some(first) = mesh.node(element.places[0] as usize)
+            && element.region as usize == region
+            && first.z == z
+        {
+            put_element(out, mesh, element)?;
         }
     }
     Ok(())

@@ -8,7 +8,7 @@ use records::Entry;
 use std::io;
 use std::io::Write;
 
-// VTK's number of a kind.
+// VTK's number of a kind of element.
 #[derive(Clone, Copy)]
 struct CellType(u32);
 
@@ -23,8 +23,8 @@ impl From<ElementType> for CellType {
     }
 }
 
-// The places of an element's nodes in VTK's order. Ours are the lower nodes, counterclockwise seen from above, then the upper ones.
-// A VTK hexahedron has the same order; a VTK wedge has both triangles clockwise, and in our order its volume would be negative.
+// The places of an element's nodes in VTK's order. In a mesh the lower nodes stand first, counterclockwise seen from above, then the upper ones.
+// A VTK hexahedron has the same order; a VTK wedge has both triangles clockwise, and in the mesh's order its volume would be negative.
 fn order(kind: ElementType) -> &'static [usize]
     ensures { length result.now ≤ 8 }
 {
@@ -46,23 +46,22 @@ fn put_double(out: &mut impl Write, x: f64) -> io::Result<()> {
 
 fn put_points(out: &mut impl Write, mesh: &Mesh) -> io::Result<()> {
     for i in 0..mesh.counts.nodes {
-        let node = mesh.node(i);
-        put_double(out, node.x)?;
-        put_double(out, node.y)?;
-        put_double(out, node.z)?;
+        if let Some(node) = mesh.node(i) {
+            put_double(out, node.x)?;
+            put_double(out, node.y)?;
+            put_double(out, node.z)?;
+        }
     }
     Ok(())
 }
 
-// How many numbers the cells are: of each its nodes, and how many they are.
+// How many numbers the cells take: for each the number of its nodes, and the nodes.
 fn cell_numbers(mesh: &Mesh) -> usize {
-    let mut n = 0usize;
-    for k in 0..mesh.counts.elements {
-        if let Some(element) = mesh.element(k) {
-            n = n.saturating_add(element.kind.node_count() + 1);
-        }
-    }
-    n
+    (0..mesh.counts.elements)
+        .filter_map(|k| mesh.element(k))
+        .fold(0usize, |n, element| {
+            n.saturating_add(element.kind.node_count() + 1)
+        })
 }
 
 fn put_cell(out: &mut impl Write, element: Element<'_>) -> io::Result<()> {
@@ -118,7 +117,8 @@ pub fn put_mesh(out: &mut impl Write, regions: &Regions, mesh: &Mesh) -> io::Res
         "\nCELL_DATA {elements}\nSCALARS material int 1\nLOOKUP_TABLE default\n"
     )?;
     put_elements(out, mesh, |out, element| {
-        put_int(out, regions.material(element.region))
+        // 0 would stand for no material: the file has a number for each element.
+        put_int(out, regions.material(element.region).unwrap_or(0))
     })?;
     write!(out, "\nSCALARS region int 1\nLOOKUP_TABLE default\n")?;
     put_elements(out, mesh, |out, element| put_int(out, element.region))?;

@@ -1,5 +1,5 @@
--- On points in range every cross product of the ear rule is a number. So the Rust, which skips a vertex whose cross product is at most zero, skips exactly those where it is not above zero.
--- Assumes nothing.
+-- On points in range every cross product of the ear rule is a number. So the Rust, which skips a vertex whose cross product is at most zero, skips exactly
+-- those where it is not above zero. Assumes nothing.
 use mathlib.Core.Path.{◌≡◌}
 use mathlib.Core.Bool.{true, false, not}
 use mathlib.Core.List.{List}

@@ -16,7 +16,7 @@ pub name_length_lem : (s : List ℕ) (n : ℕ) → first (λ i. eqb (byte_at s i
 unfolding name_length
 name_length_lem s n e = sym (ap (λ (o : Option ℕ). unwrap_or o (length s)) e)
 
--- of a part that is not turned down, the solid that its lent lists have
+-- of a part that is not refused, the solid that its lent lists have
 module _ (xs ys : List Float) (start count : ℕ) where
   abbrev lent_xs : List Float
   lent_xs = take (start + count - start) (drop start xs)

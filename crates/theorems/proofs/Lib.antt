@@ -1,5 +1,5 @@
 -- Theorems about the definitions of meshing.
-pub mod Paper
+pub mod Shapes
 pub mod Crossing
 pub mod WellFormed
 pub mod ModelFormed

@@ -48,7 +48,7 @@ module _ (ds : List ℕ) (k n : ℕ) (long : length ds ≡ n) where
   latest : get_or (ds ++ k ∷ []) n 1 ≡ k
   latest = get_or_at ds k [] 1 n long
 
--- a region that is turned down with the number k
+-- a region that is refused with the number k
 marked_refused : (e n k : ℕ) (s : Run) → 1 ≤ k → Marked e n s → Marked e (suc n) (record { counts = s.counts; mesh = s.mesh; diagnostics = s.diagnostics ++ k ∷ [] })
 marked_refused e n k s h w =
     record {

@@ -1,4 +1,4 @@
--- A region that is turned down has a number from 1 on: 0 says that it was meshed. Assumes nothing.
+-- A region that is refused has a number from 1 on: 0 says that it was meshed. Assumes nothing.
 use Prim.Native.Nat.{ℕ, ◌+◌}
 use mathlib.Core.Bool.{◌&&◌}
 use mathlib.Core.List.{List}
@@ -143,7 +143,7 @@ solid_numbered r points i =
     (unless_numbered (leb (get_or r.starts i 0 + get_or r.counts i 0) points) 15 (omega arith)
     (given_numbered (Prism (at r.z_bottom i) (at r.z_top i) (get_or r.starts i 0) (get_or r.counts i 0)))))
 
--- a row that is turned down
+-- a row that is refused
 pub row_numbered : (r : Regions) (px py : List Float) (o : Overrides) (default : MeshConfig) (i : ℕ) (c : Counts) (m : Mesh) → Numbered (row_part r px py o default i c m)
 unfolding row_part region_at
 row_numbered r px py o default i c m =

@@ -34,7 +34,7 @@ use Rattle.meshing.specs.Ring.{kept, gathered}
 use Rattle.meshing.specs.Scanline.{even_band, bands_in, scanline_of, quads_part}
 use Rattle.meshing.specs.Triangles.{Triangle}
 use Rattle.meshing.proofs.BoxLaws.{box_judged_lem, judged_fits}
-use Rattle.meshing.proofs.Demand.{triangles_triangulation}
+use Rattle.meshing.proofs.Triangulations.{triangles_triangulation}
 
 one_more : (a b : ℕ) → 1 ≤ a → 1 ≤ b → 1 ≤ a * b
 one_more zero b h k = absurd (omega arith)

@@ -1,10 +1,10 @@
 -- What welding does, on the definitions:
---     kept-below, kept-ascends     the nodes kept are old nodes, in their old order
---     new-below, new-key           a node's new number is that of a node kept, and that node has its key
---     well-welded                  a sound mesh stays well formed
---     welded-again                 welding again with the same tolerance changes nothing
---     weld-gives, weld-formed      so an accepted call gives a well-formed mesh
---     weld-never, volume-never     a well-formed mesh taken to its counts is not refused with 13 or 15
+--     kept_below, kept_ascends     the nodes kept are old nodes, in their old order
+--     new_below, new_key           a node's new number is that of a node kept, and that node has its key
+--     well_welded                  a sound mesh stays well formed
+--     welded_again                 welding again with the same tolerance changes nothing
+--     weld_gives, weld_formed      so an accepted call gives a well-formed mesh
+--     weld_never, volume_never     a well-formed mesh taken to its counts is not refused with 13 or 15
 -- Assumes nothing.
 use Prim.Native.Nat.{ℕ, zero, suc, ◌+◌, ◌*◌, ◌≤◌, ◌<◌}
 use mathlib.Core.Path.{◌≡◌, refl, sym, ap, ◌∙◌, subst}

@@ -1,9 +1,9 @@
--- What an accepted region call appends is sound (specs/Added: PartSound), and a well-formed mesh with it is well formed.
---     box-sound, quads-sound, triangles-sound     what each way of meshing appends
---     region-sound, region-fits                   what a region call gives
---     added-well-formed                           a well-formed mesh with sound nodes and elements that fit
---     region-well-formed, call-well-formed        the mesh that a region call leaves
---     empty-well-formed                           one to begin with
+-- What an accepted region call appends is sound (`PartSound` in meshing's specs/Added), and a well-formed mesh with it is well formed.
+--     box_sound, quads_sound, triangles_sound     what each way of meshing appends
+--     region_sound, region_fits                   what a region call gives
+--     added_well_formed                           a well-formed mesh with sound nodes and elements that fit
+--     region_well_formed, call_well_formed        the mesh that a region call leaves
+--     empty_well_formed                           one to begin with
 -- Assumes nothing.
 use mathlib.Core.Path.{◌≡◌, refl, sym, ap, subst, ◌∙◌}
 use mathlib.Core.Bool.{Bool, true, false, ◌&&◌, ◌||◌, cond}
@@ -48,12 +48,14 @@ use Rattle.meshing.specs.Triangles.{Triangle, tri, corners}
 use Rattle.meshing.specs.Ears.{triangles_of}
 use Rattle.meshing.specs.Rectilinear.{is_rectilinear}
 use Rattle.meshing.specs.Quads.{Trapezoid}
-use Rattle.meshing.specs.Scanline.{scanline_of, quad_xs, quad_ys, quad_zs, quad_places, quads_part}
+use Rattle.meshing.specs.Scanline.{scanline_of, quad_xs, quad_zs, quad_places, quads_part}
 use Rattle.meshing.specs.Prisms.{prism_places, triangles_part, triangles_or, ring_part, prism_part, mesh_prism}
 use Rattle.meshing.specs.Regions.{mesh_region}
-use Rattle.meshing.proofs.BoxLaws.{box_judged_lem, judged_fits}
-use Rattle.meshing.proofs.Demand.{triangles_triangulation}
+use Rattle.meshing.proofs.BoxLaws.{box_judged_lem, judged_sized}
+use Rattle.meshing.proofs.Triangulations.{triangles_triangulation}
 use Rattle.meshing.proofs.GridLaws.{grid_length, hexes_length, hexes_below, hexes_from}
+use Rattle.meshing.proofs.PrismLaws.{prism_length}
+use Rattle.meshing.proofs.QuadLaws.{eight_xs, eight_ys}
 
 -- ---- an element that is appended
 
@@ -131,9 +133,6 @@ module _ (base : ℕ) (z0 z1 : Float) (qs : List Trapezoid) where
   abbrev quad_run : ℕ → List ℕ
   quad_run i = quad_places (base + i * 8)
 
-  quads_nodes : length (joined quad_xs qs) ≡ length qs * 8
-  quads_nodes = joined_length quad_xs 8 (λ q. refl) qs
-
   -- eight places of run i
   quad_places_lem : (i start at : ℕ) → i < length qs → start + 8 ≤ 16 → at ≡ i * 16 + start → part at 8 (runs (length qs) quad_run) ≡ part start 8 (quad_run i)
   quad_places_lem i start at h l e =
@@ -142,10 +141,10 @@ module _ (base : ℕ) (z0 z1 : Float) (qs : List Trapezoid) where
       ∙ ap (part start 8) (part_runs 16 quad_run (λ i. refl) (length qs) i h)
 
   quad_node : (i k : ℕ) → i < length qs → k < 8 → Among base (length (joined quad_xs qs)) (base + i * 8 + k)
-  quad_node i k h l = record { from = omega arith; below = omega (arith, quads_nodes) }
+  quad_node i k h l = record { from = omega arith; below = omega (arith, eight_xs qs) }
 
   quad_first : (i : ℕ) → i < length qs → Among base (length (joined quad_xs qs)) (base + i * 8)
-  quad_first i h = record { from = omega arith; below = omega (arith, quads_nodes) }
+  quad_first i h = record { from = omega arith; below = omega (arith, eight_xs qs) }
 
   -- the two prisms of a quad
   lower_sound : (i : ℕ) → i < length qs → sound_as base (length (joined quad_xs qs)) (kind_number kind.Prism) (part 0 8 (quad_run i)) ≡ true
@@ -175,8 +174,8 @@ module _ (base : ℕ) (z0 z1 : Float) (qs : List Trapezoid) where
   quads_sound =
       let prisms = elems_length (λ _. kind_number kind.Prism) (2 * length qs) in
       record {
-        same_ys = joined_length quad_ys 8 (λ q. refl) qs ∙ sym quads_nodes;
-        same_zs = runs_length (λ _. quad_zs z0 z1) 8 (λ i. refl) (length qs) ∙ sym quads_nodes;
+        same_ys = eight_ys qs ∙ sym (eight_xs qs);
+        same_zs = runs_length (λ _. quad_zs z0 z1) 8 (λ i. refl) (length qs) ∙ sym (eight_xs qs);
         eight = omega (arith, runs_length quad_run 16 (λ i. refl) (length qs), prisms);
         elements = all_from (element_appended base (quads_part base z0 z1 qs)) _ (λ e l. quad_appended e (omega (arith, prisms)));
       }
@@ -191,9 +190,6 @@ corners_at : (n : ℕ) (ts : List Triangle) (e : ℕ) → Below n (corners ts) �
 corners_at n [] e b h = absurd (omega arith)
 corners_at n (tri u v w ∷ ts) zero b h = (b.0, b.1.0, b.1.1.0)
 corners_at n (tri u v w ∷ ts) (suc e) b h = corners_at n ts e b.1.1.1 (omega arith)
-
-prism_places_lem : (base n : ℕ) (t : Triangle) → length (prism_places base n t) ≡ 8
-prism_places_lem base n (tri a b c) = refl
 
 on_triangle : (base n nodes : ℕ) (t : Triangle) → nodes ≡ n + n → CornersBelow n t → sound_as base nodes (kind_number kind.Prism) (prism_places base n t) ≡ true
 on_triangle base n nodes (tri a b c) e h = prism_sound (bottom a h.0) (bottom b h.1) (bottom c h.2) (top a h.0) (top b h.1) (top c h.2)
@@ -215,13 +211,13 @@ triangles_sound base z0 z1 xs ys ts below same =
     record {
       same_ys = omega (arith, nodes, length-append ys ys);
       same_zs = omega (arith, nodes, length-append (elems n (λ _. z0)) (elems n (λ _. z1)), elems_length (λ _. z0) n, elems_length (λ _. z1) n);
-      eight = omega (arith, joined_length (prism_places base n) 8 (prism_places_lem base n) ts, prisms);
+      eight = omega (arith, joined_length (prism_places base n) 8 (prism_length base n) ts, prisms);
       elements =
           all_from (element_appended base p) _ (λ e l.
           let h : e < length ts = omega (arith, prisms) in
           let at : 8 * e ≡ e * 8 = omega arith in
           appended_as base p e (elems_at (λ _. kind_number kind.Prism) 0 (length ts) e h)
-          (ap (λ (k : ℕ). part k 8 (joined (prism_places base n) ts)) at ∙ part_joined 8 (prism_places base n) (prism_places_lem base n) (tri 0 0 0) ts e h)
+          (ap (λ (k : ℕ). part k 8 (joined (prism_places base n) ts)) at ∙ part_joined 8 (prism_places base n) (prism_length base n) (tri 0 0 0) ts e h)
           (on_triangle base n (length (xs ++ xs)) (get_or ts e (tri 0 0 0)) nodes (corners_at n ts e below h)));
     }
 
@@ -338,10 +334,6 @@ added_well_formed c region m p w s f =
 
 -- ---- what a region call gives
 
-has_room : (n at len : ℕ) → at + n ≤ 1048576 → at + n ≤ len → fits n at len ≡ true
-unfolding fits
-has_room n at len h l = rw (le-leb (at + n) 1048576 h, le-leb (at + n) len l)
-
 -- its part is sound, and there was room for it
 record Accepted (c : Counts) (m : Mesh) (p : Part) : Type 0 where
   sound : PartSound c.nodes p
@@ -354,8 +346,8 @@ module _ (b : Bbox) (z0 z1 : Float) (material : ℕ) (config : MeshConfig) (c : 
   box_fitting : (n : BoxCells) → judged ≡ given n → fit_part c m (box_of_cells c.nodes b z0 z1 n) ≡ given (box_of_cells c.nodes b z0 z1 n)
   unfolding fit_part box_part
   box_fitting n e =
-      let f = judged_fits b z0 z1 material config c _ _ _ _ _ _ n e in
-      rw (grid_length, elems_length, has_room _ c.nodes (length m.xs) f.nodes_most f.nodes_room, has_room _ c.elements (length m.kinds) f.elements_most f.elements_room)
+      let s = judged_sized b z0 z1 material config c _ _ _ _ _ _ n e in
+      rw (grid_length, elems_length, s.nodes_fit, s.hexes_fit)
 
   box_decided : (a : Answer BoxCells) → judged ≡ a → map_answer (box_of_cells c.nodes b z0 z1) a ≡ given p → Accepted c m p
   box_decided (refused n) e f = refused_given f

@@ -1,2 +1,2 @@
--- The shapes of document 01.
-pub mod Paper
+-- Worked shapes.
+pub mod Shapes

@@ -1,2 +1,2 @@
--- What the programs of worked shapes compute by.
+-- What the check unfolds in the programs of worked shapes.
 pub mod OnShapes

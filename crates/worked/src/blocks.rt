@@ -1,4 +1,4 @@
-// Blocks of one row. They are macros: a call on a list that a function gives back is not computed.
+// Blocks of one row. They are macros, since the check does not compute a call on a list that a function gives back.
 
 // A map of one row: from a name of one byte to one of two, or of one where the second is 0.
 #[macro_export]
@@ -13,7 +13,7 @@ macro_rules! map_of {
     }};
 }
 
-// A stack of one layer with a name of one byte: flags that say which figures it has, and the two highest bytes of its height.
+// A stack of one layer with a name of one byte, the flags that say which figures it has, and the two highest bytes of its height.
 #[macro_export]
 macro_rules! stack_of {
     ($name:expr, $flags:expr, $low:expr, $high:expr) => {{

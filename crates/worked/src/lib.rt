@@ -1,4 +1,4 @@
-// What the programs of worked shapes share: a box in a line, and names read from blocks and compared with what is expected.
+// What the programs of worked shapes share: boxes and blocks made in one line, and names read from blocks and compared with what is expected.
 #![tactic(auto)]
 
 mod blocks;

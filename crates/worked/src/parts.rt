@@ -1,4 +1,4 @@
-// Calls whose answer is a part of a block: the bytes there, compared with what is expected.
+// Calls whose answer is a part of a block: whether the bytes there are those expected.
 ghost use Rattle.std.specs.Prelude.{◌≡◌, option_map, IfSome};
 ghost use Rattle.std.specs.Option.{option_or};
 ghost use Rattle.openrdson_core.specs.Bytes.{same};
@@ -9,7 +9,7 @@ ghost use Rattle.worked.specs.Asked.{is_name, is_start, is_end, is_via};
 
 use openrdson_core::{NamePlace, Span};
 
-// The part of the block is this name.
+// Whether the part of the block is this name.
 #[tactic(auto, using(openrdson_core::proofs::ByteLaws::same_is))]
 fn part_is(block: &[u8], p: Span, name: &[u8]) -> bool
     requires { span_within block.now p }
@@ -18,7 +18,7 @@ fn part_is(block: &[u8], p: Span, name: &[u8]) -> bool
     &block[p.start..p.start + p.count] == name
 }
 
-// The part of the block is this name, or is absent where the name is empty.
+// Whether the part of the block is this name, or is absent where the name is empty.
 fn end_is(block: &[u8], end: Option<Span>, name: &[u8]) -> bool
     requires { IfSome end (span_within block.now) }
     ensures { result ≡ is_end (option_map (spanned block.now) end) name.now }
@@ -29,7 +29,7 @@ fn end_is(block: &[u8], end: Option<Span>, name: &[u8]) -> bool
     }
 }
 
-// The layer has this name.
+// Whether the layer has this name.
 pub fn layer_name_is(names: &[u8], layer: i16, name: &[u8]) -> bool
     ensures { result ≡ is_name (layer_name names.now layer) name.now }
 {
@@ -39,7 +39,7 @@ pub fn layer_name_is(names: &[u8], layer: i16, name: &[u8]) -> bool
     }
 }
 
-// The physical name stands in a map.
+// Whether one of the two maps has this physical name for the one asked.
 pub fn place_is(conducting: &[u8], via: &[u8], asked: &[u8], name: &[u8]) -> bool
     ensures { result ≡ is_name (lookup conducting.now via.now asked.now) name.now }
 {
@@ -50,7 +50,7 @@ pub fn place_is(conducting: &[u8], via: &[u8], asked: &[u8], name: &[u8]) -> boo
     }
 }
 
-// The physical name stands in a map, and starts there.
+// Whether one of the two maps has a physical name for the one asked, and it starts there.
 pub fn place_starts(conducting: &[u8], via: &[u8], asked: &[u8], start: usize) -> bool
     ensures { result ≡ is_start (lookup conducting.now via.now asked.now) (option_or (start_in_map conducting.now asked.now) (start_in_map via.now asked.now)) start }
 {
@@ -60,7 +60,7 @@ pub fn place_starts(conducting: &[u8], via: &[u8], asked: &[u8], start: usize) -
     }
 }
 
-// The via has these layers, an empty one where it is absent.
+// Whether the via has these layers; an empty name stands for an absent layer.
 pub fn via_is(vias: &[u8], asked: &[u8], bottom: &[u8], top: &[u8]) -> bool
     ensures { result ≡ is_via (via_layers vias.now asked.now) bottom.now top.now }
 {

@@ -39,7 +39,7 @@ fn hexes() {
     expect((lists.kinds[1] == 1) & (lists.regions[1] == 7));
 }
 
-// 1e-6 across and 0.1e-6 in height.
+// The default is 1e-6 across and 0.1e-6 in height.
 fn default_sizes() {
     let config = MeshConfig::default();
     expect(config.lateral_cell == 1e-6);

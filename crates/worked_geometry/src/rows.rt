@@ -7,8 +7,8 @@ ghost use Rattle.worked_geometry.specs.Expected.{two_rows};
 use geometry::{NO_POLYGON, Regions, total_volume};
 use openrdson_core::Refusal;
 
-// Of these kinds and materials: the box 0..2 by 0..1 from 0 to `top`, whose start and count are the largest numbers, and a prism from 0 to 2 over points 1 to 3,
-// whose first four bounds are no numbers.
+// The total of two rows of these kinds and materials: the box 0..2 by 0..1 from 0 to `top`, whose start and count are the largest u32, and a prism from
+// 0 to 2 over points 1 to 3, whose first four bounds are not-a-number.
 pub fn total_of_two(
     kinds: &[u8],
     materials: &[u32],

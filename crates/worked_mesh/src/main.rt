@@ -1,4 +1,4 @@
-// Meshes: the four kinds, lists of a tet and a hex, the room in a list of eight, a tet beside a pyramid that has one place too many, and what lists hold.
+// Meshes: the four kinds, lists of a tet and a hex, the room in a list of eight, a tet beside a pyramid that has one node place too many, and entries of lists.
 #![tactic(auto, unfolding(worked::proofs::OnShapes::on_meshes))]
 
 use check::expect;

@@ -1,4 +1,4 @@
--- What the programs of meshes compute by.
+-- What the check unfolds in the programs of meshes.
 pub mod OnRegions
 pub mod OnPrisms
 pub mod OnModels

@@ -1,4 +1,4 @@
--- What is unfolded to compute a contract on a meshed region.
+-- What is unfolded to compute a contract on a meshed box.
 use Rattle.std.specs.Prelude.{⊤}
 use lib.Ieee.{of_int}
 use Rattle.lists.specs.Lists.{put, runs, elems}

@@ -21,7 +21,7 @@ pub const UNIT_CELLS: MeshConfig = MeshConfig {
     z_cell: 1.0,
 };
 
-// So many nodes and elements.
+// The counts of so many nodes and elements.
 pub fn counts_of(nodes: usize, elements: usize) -> Counts
     ensures { result ≡ the_counts nodes elements }
 {

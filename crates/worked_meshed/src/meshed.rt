@@ -1,5 +1,5 @@
-// Lists of a mesh of so many nodes, elements and node places, all 9 before anything is written in them.
-// A macro: of a function that makes them, lends them in a struct to a call and gives them back, the check does not find what they hold.
+// The lists of a mesh with so many nodes, elements and node places; every entry is 9.
+// A macro, since the check does not find what lists hold that a function makes, lends in a struct to a call and gives back.
 #[macro_export]
 macro_rules! nines {
     ($nodes:expr, $elements:expr, $places:expr) => {

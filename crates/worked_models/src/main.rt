@@ -1,5 +1,5 @@
-// Models: refused regions amid others, and a job with too few diagnostics. Each function is a call on
-// a shape and what it gives; one function of the shapes was tried, which proves over lists that are lent one by one alone, and is longer.
+// Models: refused regions amid others, and a job with too few diagnostics. Each function is a call on a
+// shape and what it gives. They do not share a function with the shape as its parameter: that is proved only if the lists are lent one by one, and is longer.
 #![tactic(auto, unfolding(worked_meshed::proofs::OnModels::on_models))]
 
 use check::expect;
@@ -8,7 +8,7 @@ use meshing::mesh_model;
 use openrdson_core::Refusal;
 use worked_meshed::{EMPTY, UNIT_CELLS, counts_of, nines};
 
-// A box; a row of no known kind, refused with 15; a box of two cells, for which there is no room, 12; a box, meshed after the first: its hex carries 3.
+// A box; a row of no known kind, refused with 15; a box of two cells, for which there is no room, refused with 12; a box, whose hex carries region 3.
 fn refused_amid() {
     let rows = Regions {
         kinds: &[0, 7, 0, 0],

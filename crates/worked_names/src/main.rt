@@ -1,4 +1,5 @@
-// Names in blocks: layer -2 is named a, the via v goes up from m and has no top, maps of one row lead from a to b and from a to cc, and a map of two leads from a and b to c.
+// Names in blocks: layer -2 is named a; the via v goes up from m and has no top layer; maps of one row lead from a to b and from a to cc; a map of two rows
+// leads from a and b to c.
 #![tactic(auto, unfolding(worked::proofs::OnShapes::on_names))]
 
 use check::expect;
@@ -35,7 +36,7 @@ fn places() {
     expect(physical_name(&second, &first, b"a") == b"cc".as_slice());
 }
 
-// The same physical name twice: each row's own.
+// The same physical name in two rows: the name that is found is that of the row asked for.
 fn starts() {
     let empty = [0, 0];
     let mut twice = [0; 130];
@@ -48,7 +49,7 @@ fn starts() {
     expect(place_starts(&empty, &twice, b"a", 66));
 }
 
-// The same of checked blocks.
+// Lookups in blocks that have been checked.
 fn checked() {
     let damaged = [1, 0];
     expect(LayerNames::checked(&damaged).is_err());

@@ -1,5 +1,5 @@
-// Models with overrides: cell sizes by material. Each function is a call on
-// a shape and what it gives; one function of the shapes was tried, which proves over lists that are lent one by one alone, and is longer.
+// Models with overrides: cell sizes by material. Each function is a call on a
+// shape and what it gives. They do not share a function with the shape as its parameter: that is proved only if the lists are lent one by one, and is longer.
 #![tactic(auto, unfolding(worked_meshed::proofs::OnModels::on_models))]
 
 use check::expect;
@@ -8,7 +8,7 @@ use meshing::{MeshConfig, Overrides, mesh_model_with_options};
 use openrdson_core::Refusal;
 use worked_meshed::{EMPTY, counts_of, nines};
 
-// Cells of 4, where no override is: each box below is one.
+// The default, cells of 4: each box below is one such cell.
 const CELLS: MeshConfig = MeshConfig {
     lateral_cell: 4.0,
     z_cell: 4.0,

@@ -1,2 +1,2 @@
--- What the checks compute by.
+-- What the check unfolds in this program.
 pub mod OnRings

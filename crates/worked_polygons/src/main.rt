@@ -1,4 +1,4 @@
-// Cleaning and triangulating document 01's shapes: a square, a triangle that turns clockwise, four points on a line, and a ring with close points.
+// Cleaning and triangulating: a square, a triangle that turns clockwise, four points on a line, and a ring with close points.
 #![tactic(auto, unfolding(crate::proofs::OnRings::on_rings))]
 
 mod cut;
@@ -7,15 +7,15 @@ ghost use Rattle.std.specs.Prelude.{◌≡◌};
 
 use check::expect;
 use cut::Cut;
-use meshing::{Triangulation, dedup_ring};
+use meshing::{PolygonCounts, dedup_ring};
 use openrdson_core::Refusal;
 
-// So many vertices and triangles.
-fn counts_of(vertices: usize, triangles: usize) -> Triangulation
+// The counts of so many vertices and triangles.
+fn counts_of(vertices: usize, triangles: usize) -> PolygonCounts
     ensures vertices { result.vertices ≡ vertices }
     ensures triangles { result.triangles ≡ triangles }
 {
-    Triangulation {
+    PolygonCounts {
         vertices,
         triangles,
     }

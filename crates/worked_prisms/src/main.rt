@@ -1,5 +1,5 @@
-// Prisms: document 01's L, two edges that cross at one place, plates about 1e-30 in area, and regions. Each function is a call on
-// a shape and what it gives; one function of the shapes was tried, which proves over lists that are lent one by one alone, and is longer.
+// Prisms: an L, two edges that cross at one place, plates about 1e-30 in area, and regions. Each function is a call on a
+// shape and what it gives. They do not share a function with the shape as its parameter: that is proved only if the lists are lent one by one, and is longer.
 #![tactic(auto, unfolding(worked_meshed::proofs::OnPrisms::on_regions))]
 
 use check::expect;
@@ -28,7 +28,7 @@ const CUBE: SolidRegion = SolidRegion {
     },
 };
 
-// The L: two quads, each with nodes of its own.
+// The L (0,0), (2,0), (2,1), (1,1), (1,2), (0,2): two quads, each with nodes of its own.
 fn l_shape() {
     let xs = [0.0, 2.0, 2.0, 1.0, 1.0, 0.0];
     let ys = [0.0, 0.0, 1.0, 1.0, 2.0, 2.0];
@@ -40,7 +40,7 @@ fn l_shape() {
     expect((lists.kinds[3] == 2) & (lists.regions[3] == 7));
 }
 
-// Edges 1 and 4 cross the middle at one place: edge 1 comes first.
+// Edges 1 and 4 cross the band's middle at one place: edge 1 comes first.
 fn tie() {
     let xs = [0.0, 2.0, 4.0, 5.0, 4.0, 2.0];
     let ys = [0.0, 0.0, 2.0, 0.0, 0.0, 2.0];
@@ -92,7 +92,7 @@ fn clipped() {
     expect(lists.regions[1] == 5);
 }
 
-// A region that is a box: one hex. The point lists say nothing of it.
+// A region that is a box: one hex. No point of the lists is looked at.
 fn box_region() {
     let xs = [0.0, 4.0];
     let ys = [0.0, 1.0];

@@ -1,4 +1,4 @@
-// The rectangle test: a box is a ring on the four corners of its bounds, in any order. Beside it, rings, points and heights of unequal lengths or out of range.
+// The rectangle test: a box is a ring on the four corners of its bounds, in any order. Then rings and points, of unequal lengths or out of range, and heights.
 #![tactic(auto, unfolding(worked::proofs::OnShapes::on_shapes, openrdson_core::specs::Points::points_part))]
 
 use check::expect;
@@ -23,7 +23,7 @@ fn rectangles() {
     expect(is_axis_aligned_rectangle(&line, &wild) == Err(Refusal::NumberOutOfRange));
 }
 
-// A ring, its points, and two of them.
+// Rings and points of unequal lengths, out of range and sound; parts of points; heights at the limit and past it.
 fn rings() {
     let xs = [0.0, 1.0, 1048577.0];
     let ys = [0.0, 0.0, 2.0];

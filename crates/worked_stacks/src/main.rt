@@ -49,7 +49,7 @@ fn figures() {
     );
 }
 
-// The same of checked blocks.
+// Lookups in blocks that have been checked.
 fn checked_stack() {
     let damaged = [1, 0];
     expect(Stack::checked(&damaged).is_err());

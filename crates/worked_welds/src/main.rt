@@ -1,5 +1,5 @@
-// Welding and volumes: document 01's nodes, halves, a tet, a prism, and meshes that are refused. Each function is a call on
-// a shape and what it gives; one function of the shapes was tried, which proves over lists that are lent one by one alone, and is longer.
+// Welding and volumes: nodes that are joined, halves, a tet, a prism, and meshes that are refused. Each function is a call on a
+// shape and what it gives. They do not share a function with the shape as its parameter: that is proved only if the lists are lent one by one, and is longer.
 #![tactic(auto, unfolding(worked_meshed::proofs::OnWhole::on_volumes, worked_meshed::proofs::OnWhole::on_welds))]
 
 use check::expect;
@@ -7,7 +7,8 @@ use meshing::{mesh_volume, weld_nodes};
 use openrdson_core::{Mesh, Refusal, UNUSED};
 use worked_meshed::{counts_of, nines};
 
-// With a tolerance of 1, -0.4 and 0.4 become one node, the first, and 0.6 stays: the tet's places are renumbered, what it does not use stays, and entries past the mesh are kept.
+// With a tolerance of 1, -0.4 and 0.4 become one node, the first, and 0.6 stays. The tet's node places are renumbered, those that it does not use stay, and
+// entries past the mesh are kept.
 fn joined() {
     let mut out = nines!(3, 1, 8);
     let mesh = Mesh {

@@ -1,7 +1,7 @@
 -- `node_row` meets its contract: the loop writes all places but the last. Assumes nothing.
 use Rattle.std.proofs.Common.{◌≡◌, ◌+◌, refl, arith}
 use Rattle.lists.proofs.Fills.{no_elems, one_elem, all_elems}
-use Rattle.meshing.proofs.GridLaws.{axis_inner, axis_last}
+use Rattle.meshing.proofs.GridLaws.{axis_last}
 use Rattle.meshing.proofs.BoxWrites.{same_mesh}
 use Rattle.meshing.proofs.grid.node_row.Goals as goal
 
@@ -9,12 +9,11 @@ pub loop-i-init : goal.loop-i-init
 loop-i-init c = (no_elems _ _ _, no_elems _ _ _, no_elems _ _ _)
 
 pub loop-i-preserved : goal.loop-i-preserved
-loop-i-preserved c = let a = c.args in
-    let inv = c.loop-i.invariant in (
-      one_elem inv.0 refl (omega arith) (axis_inner a.x.low a.x.high a.x.step a.x.cells c.loop-i.i a.x.even c.loop-i-test.true),
-      one_elem inv.1 refl (omega arith) refl,
-      one_elem inv.2 refl (omega arith) refl,
-    )
+loop-i-preserved c = let inv = c.loop-i.invariant in (
+  one_elem inv.0 refl (omega arith) c.before_end.ensures,
+  one_elem inv.1 refl (omega arith) refl,
+  one_elem inv.2 refl (omega arith) refl,
+)
 
 pub returns-clause-nodes : goal.returns-clause-nodes
 returns-clause-nodes c = let a = c.args in

@@ -1,5 +1,5 @@
 -- `level_list` meets its contract: the heights put in so far, with those that are left, come to the levels of all. Assumes nothing.
-use Rattle.std.proofs.Common.{refl, ◌≤◌, ◌∙◌, length, take, drop, length-take-le, arith}
+use Rattle.std.proofs.Common.{refl, ◌≤◌, ◌++◌, ◌∙◌, length, length-append, take, drop, length-take-le, arith}
 use Rattle.std.proofs.lemmas.List.{take-append-le}
 use Rattle.meshing.proofs.LevelLaws.{levels_start, levels_more, levels_end}
 use Rattle.meshing.proofs.levels.level_list.Goals as goal
@@ -16,8 +16,10 @@ loop-i-preserved c = let v = c.loop-i in (
 
 pub returns : goal.returns
 returns c = let v = c.loop-i in
-    let d = c.drop_close in
-    let less : d.result ≤ length d.new.l = omega (arith, d.ensures.1, d.auto.l) in (
-      take-append-le d.result d.new.l (drop v.count v.out) less ∙ d.ensures.0 ∙ levels_end c.args.ys.now (take v.count v.out) v.i v.invariant.2 (omega arith),
-      omega (arith, d.ensures.1, length-take-le v.count v.out (omega arith)),
-    )
+    let d = c.drop_close-apart in
+    let less : d.result ≤ length d.new.l = omega (arith, d.ensures.1, d.auto.l) in
+    let few = length-take-le d.result (d.new.l ++ drop v.count v.out) (omega (arith, less, length-append d.new.l (drop v.count v.out))) in
+    record {
+      are = take-append-le d.result d.new.l (drop v.count v.out) less ∙ d.ensures.0 ∙ levels_end c.args.ys.now (take v.count v.out) v.i v.invariant.2 (omega arith);
+      within = omega (arith, few, d.ensures.1, length-take-le v.count v.out (omega arith));
+    }

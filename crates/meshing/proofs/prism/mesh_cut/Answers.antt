@@ -13,7 +13,7 @@ pub mesh_tris-requires-clause-ring : goal.mesh_tris-requires-clause-ring
 mesh_tris-requires-clause-ring g c = let r = c.args.again.ring in
     let l = c.in-Ok.corners in
     let t = cut_ring r.xs.now r.ys.now l.places.now (sound_ring c.args.again) (sym c.in-Ok.ensures, l.whole) in
-    (t.whole, t.below, t.few)
+    (t.below, t.few)
 
 pub returns-in-Ok-clause-mesh : goal.returns-in-Ok-clause-mesh
 returns-in-Ok-clause-mesh g c = let s = c.requires.ring.1 in

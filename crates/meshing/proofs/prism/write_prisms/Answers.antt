@@ -13,46 +13,46 @@ loop-i-init c = no_runs _ _ _ _
 
 pub overflow_add-bottom : goal.overflow_add-bottom
 overflow_add-bottom c = let a = c.args in
-    let k : c.loop-i.i < length a.corners.now / 3 = omega arith in
-    omega (arith, c.requires.2, corner_below a.corners.now c.as_chunks.ensures.front c.loop-i.i k a.n 0 c.requires.1 (omega arith))
+    let k : c.loop-i.i < length a.corners.places.now / 3 = omega arith in
+    omega (arith, c.requires.1, corner_below a.corners.places.now c.as_chunks.ensures.front c.loop-i.i k a.n 0 c.requires.0 (omega arith))
 
 pub overflow_add-bottom-in-loop-i : goal.overflow_add-bottom-in-loop-i
 overflow_add-bottom-in-loop-i c = let a = c.args in
-    let k : c.loop-i.i < length a.corners.now / 3 = omega arith in
-    omega (arith, c.requires.2, corner_below a.corners.now c.as_chunks.ensures.front c.loop-i.i k a.n 1 c.requires.1 (omega arith))
+    let k : c.loop-i.i < length a.corners.places.now / 3 = omega arith in
+    omega (arith, c.requires.1, corner_below a.corners.places.now c.as_chunks.ensures.front c.loop-i.i k a.n 1 c.requires.0 (omega arith))
 
 pub overflow_add-bottom-in-loop-i-2 : goal.overflow_add-bottom-in-loop-i-2
 overflow_add-bottom-in-loop-i-2 c = let a = c.args in
-    let k : c.loop-i.i < length a.corners.now / 3 = omega arith in
-    omega (arith, c.requires.2, corner_below a.corners.now c.as_chunks.ensures.front c.loop-i.i k a.n 2 c.requires.1 (omega arith))
+    let k : c.loop-i.i < length a.corners.places.now / 3 = omega arith in
+    omega (arith, c.requires.1, corner_below a.corners.places.now c.as_chunks.ensures.front c.loop-i.i k a.n 2 c.requires.0 (omega arith))
 
 pub overflow_add-top-in-loop-i : goal.overflow_add-top-in-loop-i
 overflow_add-top-in-loop-i c = let a = c.args in
-    let k : c.loop-i.i < length a.corners.now / 3 = omega arith in
-    omega (arith, c.requires.2, corner_below a.corners.now c.as_chunks.ensures.front c.loop-i.i k a.n 0 c.requires.1 (omega arith))
+    let k : c.loop-i.i < length a.corners.places.now / 3 = omega arith in
+    omega (arith, c.requires.1, corner_below a.corners.places.now c.as_chunks.ensures.front c.loop-i.i k a.n 0 c.requires.0 (omega arith))
 
 pub overflow_add-top-in-loop-i-2 : goal.overflow_add-top-in-loop-i-2
 overflow_add-top-in-loop-i-2 c = let a = c.args in
-    let k : c.loop-i.i < length a.corners.now / 3 = omega arith in
-    omega (arith, c.requires.2, corner_below a.corners.now c.as_chunks.ensures.front c.loop-i.i k a.n 1 c.requires.1 (omega arith))
+    let k : c.loop-i.i < length a.corners.places.now / 3 = omega arith in
+    omega (arith, c.requires.1, corner_below a.corners.places.now c.as_chunks.ensures.front c.loop-i.i k a.n 1 c.requires.0 (omega arith))
 
 pub overflow_add-top-in-loop-i-3 : goal.overflow_add-top-in-loop-i-3
 overflow_add-top-in-loop-i-3 c = let a = c.args in
-    let k : c.loop-i.i < length a.corners.now / 3 = omega arith in
-    omega (arith, c.requires.2, corner_below a.corners.now c.as_chunks.ensures.front c.loop-i.i k a.n 2 c.requires.1 (omega arith))
+    let k : c.loop-i.i < length a.corners.places.now / 3 = omega arith in
+    omega (arith, c.requires.1, corner_below a.corners.places.now c.as_chunks.ensures.front c.loop-i.i k a.n 2 c.requires.0 (omega arith))
 
 pub write_eight-requires : goal.write_eight-requires
-write_eight-requires c = let many : length c.args.corners.now / 3 ≡ length (triples c.args.corners.now) = omega (arith, triples_many c.args.corners.now c.requires.0) in
-    omega (arith, c.requires.3, many)
+write_eight-requires c = let many : length c.args.corners.places.now / 3 ≡ length (triples c.args.corners.places.now) = omega (arith, triples_many c.args.corners.places.now c.args.corners.whole) in
+    omega (arith, c.requires.2, many)
 
 pub loop-i-preserved : goal.loop-i-preserved
 loop-i-preserved c = let a = c.args in
     let v = c.loop-i in
-    let k : v.i < length a.corners.now / 3 = omega arith in
-    let many : length a.corners.now / 3 ≡ length (triples a.corners.now) = omega (arith, triples_many a.corners.now c.requires.0) in
-    one_run v.invariant (c.write_eight.ensures ∙ ap (put v.places (a.at + v.i * 8)) (prism_of a.corners.now c.as_chunks.ensures.front v.i k a.base a.n)) (λ j. prism_length a.base a.n (get_or (triples a.corners.now) j (tri 0 0 0))) refl (omega (arith, c.requires.3))
+    let k : v.i < length a.corners.places.now / 3 = omega arith in
+    let many : length a.corners.places.now / 3 ≡ length (triples a.corners.places.now) = omega (arith, triples_many a.corners.places.now c.args.corners.whole) in
+    one_run v.invariant (c.write_eight.ensures ∙ ap (put v.places (a.at + v.i * 8)) (prism_of a.corners.places.now c.as_chunks.ensures.front v.i k a.base a.n)) (λ j. prism_length a.base a.n (get_or (triples a.corners.places.now) j (tri 0 0 0))) refl (omega (arith, c.requires.2))
 
 pub returns : goal.returns
 returns c = let a = c.args in
-    let many : length a.corners.now / 3 ≡ length (triples a.corners.now) = omega (arith, triples_many a.corners.now c.requires.0) in
-    all_runs c.loop-i.invariant (omega arith) ∙ ap (put a.places.now a.at) (joined_runs (prism_places a.base a.n) (tri 0 0 0) (triples a.corners.now))
+    let many : length a.corners.places.now / 3 ≡ length (triples a.corners.places.now) = omega (arith, triples_many a.corners.places.now c.args.corners.whole) in
+    all_runs c.loop-i.invariant (omega arith) ∙ ap (put a.places.now a.at) (joined_runs (prism_places a.base a.n) (tri 0 0 0) (triples a.corners.places.now))

@@ -4,4 +4,4 @@ use Rattle.meshing.proofs.QuadLaws.{Sofar}
 use Rattle.meshing.proofs.quads.write_quads.Given as goal
 
 abbrev pub invariant-loop-left : goal.invariant-loop-left
-invariant-loop-left l = Sofar (quads_between l.ring.xs.now l.ring.ys.now l.band l.edges) (quads_between l.ring.xs.now l.ring.ys.now l.band (drop (l.left-index * 2) l.edges)) l.p l.at l.initial.nx l.initial.ny l.nx l.ny
+invariant-loop-left l = Sofar (quads_between l.edges.ring.xs.now l.edges.ring.ys.now l.band l.edges.numbers.now) (quads_between l.edges.ring.xs.now l.edges.ring.ys.now l.band (drop (l.left-index * 2) l.edges.numbers.now)) l.p l.at l.initial.nx l.initial.ny l.nx l.ny

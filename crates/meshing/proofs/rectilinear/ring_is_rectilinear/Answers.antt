@@ -1,20 +1,22 @@
--- `ring_is_rectilinear` meets its contract: the loop goes on while an edge is straight. Assumes nothing.
-use Rattle.std.proofs.Common.{arith}
-use Rattle.lists.proofs.Scans.{all_start}
-use Rattle.meshing.proofs.RectLaws.{rect_few, tolerance_is, rect_more, rect_slanted, rect_end}
+-- `ring_is_rectilinear` meets its contract: what std's `all` answers of the edges. Assumes nothing.
+use Rattle.std.proofs.Common.{◌≡◌, true, false, refl, rules, arith, tests, ℕ, Bool, length}
+use Rattle.std.proofs.lemmas.Iterator.{cases_from_all, YieldsList-from_range}
+use Rattle.openrdson_core.proofs.Ranges.{all_is}
+use Rattle.meshing.proofs.RectLaws.{is_straight, rect_few, tolerance_is, rect_by}
 use Rattle.meshing.proofs.rectilinear.ring_is_rectilinear.Goals as goal
 
 pub returns-then-n-lt3 : goal.returns-then-n-lt3
 returns-then-n-lt3 c = rect_few c.args.ring.xs.now c.args.ring.ys.now c.if-n-lt3.true
 
-pub loop-i-init : goal.loop-i-init
-loop-i-init c = (tolerance_is c.args.ring.xs.now c.args.ring.ys.now c.largest_size.ensures c.larger-eps.ensures, all_start _)
-
-pub returns-then-is_slanted : goal.returns-then-is_slanted
-returns-then-is_slanted c = rect_slanted c.args.ring.xs.now c.args.ring.ys.now c.loop-i.i c.next_place.result c.loop-i.invariant.0 c.point.ensures c.next_place.ensures.0 c.point-in-loop-i.ensures c.is_slanted.ensures c.loop-i-test.true c.if-is_slanted.true
-
-pub loop-i-preserved : goal.loop-i-preserved
-loop-i-preserved c = (c.loop-i.invariant.0, rect_more c.args.ring.xs.now c.args.ring.ys.now c.loop-i.i c.next_place.result c.loop-i.invariant.0 c.point.ensures c.next_place.ensures.0 c.point-in-loop-i.ensures c.is_slanted.ensures c.loop-i.invariant.1 c.if-is_slanted.false)
-
 pub returns : goal.returns
-returns c = rect_end c.args.ring.xs.now c.args.ring.ys.now c.if-n-lt3.false c.loop-i.invariant.1 (omega arith)
+returns c =
+    let xs = c.args.ring.xs.now in
+    let ys = c.args.ring.ys.now in
+    let n = length xs in
+    let test : ℕ → Bool = is_straight xs ys in
+    let e = tolerance_is xs ys c.largest_size.ensures c.larger.ensures in
+    rect_by xs ys c.if-n-lt3.false
+    (all_is test n c.all.result
+    (cases_from_all _ _ _ (λ i. test i ≡ true) (λ i. test i ≡ false) c.all.ensures.ran (YieldsList-from_range 0 n n refl (omega arith))
+    (λ x q k. (search rules, grind (arith, tests, e)))
+    (λ x q k. grind (arith, tests, e))))

@@ -4,5 +4,5 @@ use Rattle.openrdson_core.proofs.Rings.{fine_heights}
 use Rattle.meshing.proofs.ScanlineLaws.{sound_ring}
 use Rattle.meshing.proofs.scanline.mesh_levels.Goals as goal
 
-pub level_list-m-requires : goal.level_list-m-requires
-level_list-m-requires g c = (omega (arith, c.requires.ring.0), fine_heights _ _ (sound_ring c.args.extrusion.ring))
+pub level_list-levels-requires : goal.level_list-levels-requires
+level_list-levels-requires g c = (omega (arith, c.requires.ring.0), fine_heights _ _ (sound_ring c.args.extrusion.ring))

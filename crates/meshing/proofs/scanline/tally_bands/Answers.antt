@@ -1,5 +1,6 @@
 -- `tally_bands` meets its contract: each turn tallies the quads of a band, whose edges are found from those of the band before. Assumes nothing.
 use Rattle.std.proofs.Common.{◌≡◌, ◌-◌, ◌+◌, ◌<◌, ◌≤◌, sym, length, length-take-le, arith}
+use Rattle.lists.proofs.Places.{below_at}
 use Rattle.meshing.specs.Levels.{middle}
 use Rattle.meshing.proofs.ScanlineLaws.{band_at, hand_start, sound_ring, hand_next, hand_below, tallying_start, tallying_turn, tallying_out}
 use Rattle.meshing.proofs.scanline.tally_bands.Goals as goal
@@ -16,13 +17,19 @@ returns-in_err-count c =
     let inside : v.k - 1 + 1 < length a.bands.levels.now = omega (arith, c.loop-k-test.true) in
     rw c.from_residual.ensures (tallying_out _ _ _ v.invariant.1 inside mid c.cross.new.edges c.in_err-count.ensures)
 
+pub invariant_of-tally_quads : goal.invariant_of-tally_quads
+invariant_of-tally_quads c =
+    let s = c.args.bands.ring.ring in
+    let m = c.in_ok-count in
+    record { below = λ i h. below_at _ _ i (hand_below _ _ _ m.count c.cross.new.edges m.ensures (sym s.even)) h }
+
 pub tally_quads-t-requires : goal.tally_quads-t-requires
 tally_quads-t-requires c = let v = c.loop-k in
     let s = c.args.bands.ring.ring in
     let m = c.in_ok-count in
     let few : m.count ≤ length c.args.bands.ring.ring.ys.now = m.ensures.2 in
     let long = length-take-le m.count c.cross.new.edges (omega (arith, few, c.requires.edges_room)) in
-    (hand_below _ _ _ m.count c.cross.new.edges m.ensures (sym s.even), omega (arith, long, few, s.even, s.short, v.invariant.1.few, c.loop-k-test.true, c.args.bands.few))
+    omega (arith, long, few, s.even, s.short, v.invariant.1.few, c.loop-k-test.true, c.args.bands.few)
 
 pub loop-k-preserved : goal.loop-k-preserved
 loop-k-preserved c =

@@ -2,6 +2,7 @@
 use Rattle.std.proofs.Common.{◌≡◌, ◌-◌, ◌+◌, ◌<◌, ◌≤◌, ◌∙◌, sym, length, take, Some, arith}
 use Rattle.lists.specs.Lists.{joined}
 use Rattle.meshing.specs.Crossings.{CrossedAs}
+use Rattle.lists.proofs.Places.{below_at}
 use Rattle.meshing.specs.Levels.{middle}
 use Rattle.meshing.specs.Quads.{quads_between}
 use Rattle.meshing.specs.Scanline.{quad_xs}
@@ -20,6 +21,12 @@ unwrap-count-requires c =
     let inside : v.k - 1 + 1 < length a.bands.levels.now = omega (arith, c.loop-k-test.true) in
     writing_some _ _ _ v.invariant.1 inside mid c.cross.new.edges c.cross.result c.cross.ensures
 
+pub invariant_of-write_quads : goal.invariant_of-write_quads
+invariant_of-write_quads c =
+    let a = c.args in
+    let found : CrossedAs a.bands.ring.ring.xs.now a.bands.ring.ring.ys.now c.middle-y.result (Some c.unwrap-count.result) c.cross.new.edges = rw c.unwrap-count.ensures at c.cross.ensures in
+    record { below = λ i h. below_at _ _ i (hand_below _ _ _ c.unwrap-count.result c.cross.new.edges found (sym a.bands.ring.ring.even)) h }
+
 pub write_quads-place-requires : goal.write_quads-place-requires
 write_quads-place-requires c =
     let a = c.args in
@@ -30,7 +37,7 @@ write_quads-place-requires c =
     let found : CrossedAs a.bands.ring.ring.xs.now a.bands.ring.ring.ys.now c.middle-y.result (Some c.unwrap-count.result) c.cross.new.edges = rw c.unwrap-count.ensures at c.cross.ensures in
     let w = v.invariant.1.wrote in
     let room : v.place + length (joined quad_xs (quads_between a.bands.ring.ring.xs.now a.bands.ring.ring.ys.now (band_at a.bands.levels.now (v.k - 1)) (take c.unwrap-count.result c.cross.new.edges))) ≤ length a.nx.now = writing_room _ _ _ v.invariant.1 inside mid c.cross.new.edges {m = c.unwrap-count.result} found (rw (← drawn _ _ c.args.bands.are) at c.requires.room.0) in
-    (hand_below _ _ _ c.unwrap-count.result c.cross.new.edges found (sym a.bands.ring.ring.even), omega (arith, rw j at room, w.long_xs), w.long_ys ∙ c.requires.room.1 ∙ sym w.long_xs)
+    (omega (arith, rw j at room, w.long_xs), w.long_ys ∙ c.requires.room.1 ∙ sym w.long_xs)
 
 pub loop-k-preserved : goal.loop-k-preserved
 loop-k-preserved c =

@@ -1,11 +1,15 @@
--- `are_distinct` meets its contract: a scan. Assumes nothing.
-use Rattle.std.proofs.Common.{◌+◌, ◌*◌, not, arith, rules, sym, ℕ}
+-- `are_distinct` meets its contract: what `all` answers. Assumes nothing.
+use Rattle.std.proofs.Common.{◌≡◌, ◌+◌, ◌*◌, not, true, false, refl, rules, arith, tests, ℕ, Bool}
+use Rattle.std.proofs.lemmas.Iterator.{cases_from_all, YieldsList-from_range}
 use Rattle.lists.specs.Lists.{part, all_below}
-use Rattle.lists.proofs.Scans.{all_fails}
 use Rattle.openrdson_core.specs.Bytes.{same}
+use Rattle.openrdson_core.proofs.Ranges.{all_is}
 use Rattle.openrdson_core.proofs.blocks.are_distinct.Goals as goal
 
-pub returns-then-not-is_new : goal.returns-then-not-is_new
-returns-then-not-is_new c =
-    let cell = λ (k : ℕ). part (2 + k * c.args.w) c.args.w c.args.s.now in
-    sym (all_fails (λ k. all_below k (λ j. not (same (cell j) (cell k)))) c.args.n c.loop-i.i (omega arith) (search rules))
+pub returns : goal.returns
+returns c =
+    let test : ℕ → Bool = λ k. all_below k (λ j. not (same (part (2 + j * c.args.w) c.args.w c.args.s.now) (part (2 + k * c.args.w) c.args.w c.args.s.now))) in
+    all_is test c.args.n c.all.result
+    (cases_from_all _ _ _ (λ i. test i ≡ true) (λ i. test i ≡ false) c.all.ensures.ran (YieldsList-from_range 0 c.args.n c.args.n refl (omega arith))
+    (λ x q k. (search rules, grind (arith, tests)))
+    (λ x q k. grind (arith, tests)))

@@ -1,4 +1,4 @@
--- What a read put behind the bytes so far is behind them in the buffer.
+-- A read puts its bytes directly behind those that are in the buffer.
 use Rattle.std.proofs.Common.{◌≡◌, ℕ, ◌+◌, ◌-◌, ◌≤◌, List, ◌++◌, arith, length, take, drop, slice_range, sym, ap, ◌∙◌, subst, le_refl, take-add, drop_at, length-take-le}
 use Rattle.std.proofs.lemmas.List.{take-append-le, drop-append-le}
 use Rattle.std.proofs.lemmas.Slice.{between_is, take-put_mid_below}

@@ -1,21 +1,11 @@
--- `config_for` meets its contract: the loop takes on the override that names the material. Assumes nothing.
-use Rattle.std.proofs.Common.{◌∙◌, arith}
-use borrow.Author.Tests.{eq-eqb, ne_eqb}
-use Rattle.lists.proofs.Folds.{fold_start, fold_more, fold_end}
-use Rattle.meshing.specs.Models.{overrides_of, chosen, config_for}
+-- `config_for` meets its contract: what `rposition` answers. Assumes nothing.
+use Rattle.std.proofs.Common.{rules}
+use Rattle.meshing.specs.Models.{overrides_of}
+use Rattle.meshing.proofs.ModelLaws.{config_default, config_last}
 use Rattle.meshing.proofs.model.EvenOverrides.config_for.Goals as goal
-use Rattle.meshing.proofs.model.EvenOverrides.config_for.Goals.{else-self-i, then-self-i}
 
-pub loop-i-init : goal.loop-i-init
-loop-i-init c = fold_start _ _
-
-pub loop-i-preserved : goal.loop-i-preserved
-loop-i-preserved c = let a = c.args in
-    let v = c.loop-i in
-    fold_more (chosen (overrides_of a.self.lists) a.material.0) a.default v.i v.invariant
-    (elim c.if-self-i.branch [ then-self-i w ↦ w.found-is ∙ rw (eq-eqb _ _ w.if-self-i.true) | else-self-i w ↦ w.found-is ∙ rw (ne_eqb _ _ w.if-self-i.false) ])
+pub returns-in_default : goal.returns-in_default
+returns-in_default c = config_default (overrides_of c.args.self.lists) c.args.default c.args.material.0 (search rules)
 
 pub returns : goal.returns
-unfolding config_for
-returns c = let a = c.args in
-    fold_end (chosen (overrides_of a.self.lists) a.material.0) a.default c.loop-i.invariant (omega arith)
+returns c = config_last (overrides_of c.args.self.lists) c.args.default c.args.material.0 c.in-Some.i (search rules) (search rules) (search rules)

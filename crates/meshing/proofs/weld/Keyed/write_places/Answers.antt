@@ -4,7 +4,7 @@ use Rattle.lists.specs.Lists.{put}
 use Rattle.lists.proofs.Fills.{no_elems, one_elem, all_elems}
 use Rattle.lists.proofs.Stores.{map_elems}
 use Rattle.meshing.specs.Welds as spec
-use Rattle.meshing.proofs.WeldLaws.{same_mesh}
+use Rattle.meshing.proofs.BoxWrites.{same_mesh}
 use Rattle.meshing.proofs.weld.Keyed.write_places.Goals as goal
 
 pub loop-t-init : goal.loop-t-init

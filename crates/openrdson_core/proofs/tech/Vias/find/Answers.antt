@@ -1,4 +1,4 @@
--- `find_via` meets its contract: the two names are the halves of the value. Assumes nothing.
+-- `find` meets its contract: the two names are the halves of the value. Assumes nothing.
 use Rattle.std.proofs.Common.{◌≡◌, ◌∙◌, ◌+◌, ◌*◌, ℕ, ap, arith}
 use Rattle.lists.specs.Lists.{part}
 use Rattle.lists.proofs.Parts.{part_of_part}

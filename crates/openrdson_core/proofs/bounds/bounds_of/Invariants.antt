@@ -1,8 +1,0 @@
-use Rattle.std.proofs.Common.{◌≡◌}
-use Rattle.lists.specs.Lists.{fold_below}
-use Rattle.openrdson_core.specs.Points.{point_at}
-use Rattle.openrdson_core.specs.Bounds.{extend_point, empty_bbox}
-use Rattle.openrdson_core.proofs.bounds.bounds_of.Given as goal
-
-abbrev pub invariant-loop-i : goal.invariant-loop-i
-invariant-loop-i l = l.bounds ≡ fold_below l.i (λ b k. extend_point b (point_at l.ring.xs.now l.ring.ys.now k)) empty_bbox
