@@ -1,5 +1,5 @@
 #!/usr/bin/env bash
-# Makes the archive of the C functions, target/staticlib/libc_api.a, anew: one of an earlier run would hide a crate that is no longer proved.
+# Makes the archive of the C functions, target/staticlib/libc_api.a, anew: an archive of an earlier run would hide a crate that is not proved.
 set -euo pipefail
 cd "$(dirname "$0")/.."
 rm -rf target/staticlib

@@ -1,5 +1,5 @@
 #!/usr/bin/env bash
-# Prints the table of times and memory, the unchanged Rust beside Rattle: bench.sh [--quick] [GROUP..]. What is built first tells of it on stderr.
+# Prints the table of times and memory, the unchanged Rust beside Rattle: bench.sh [--quick] [GROUP..]. What is built before it prints to stderr.
 set -euo pipefail
 cd "$(dirname "$0")/.."
 export CARGO_TARGET_DIR="$PWD/target/cargo"

@@ -155,7 +155,7 @@ uint32_t openrdson_triangulate_polygon(
 
 /* ---- bounding boxes, never refused ---- */
 
-/* The box that absorbs the first point: from infinity to minus infinity. */
+/* The empty box, from infinity to minus infinity: extended by a point, it is that point's box. */
 openrdson_bbox openrdson_bbox_empty(void);
 
 /* Whether a minimum is above its maximum. */

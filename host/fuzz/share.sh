@@ -1,5 +1,5 @@
 #!/usr/bin/env bash
-# The gate's share: random inputs without a fuzzer, and the faults that must be caught. Needs cc alone.
+# The gate's share of the fuzzing: random inputs without a fuzzer, and the faults that must be caught. Needs cc alone.
 set -euo pipefail
 cd "$(dirname "$0")/../.."
 out=target/fuzz

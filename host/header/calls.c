@@ -1,5 +1,5 @@
-/* Calls through include/openrdson.h, as a C program makes them: shapes of document 01, refusals, and the limits that the
-   header names, on both sides of each. */
+/* Calls through include/openrdson.h, as a C program makes them: worked shapes, refusals, and the limits that the header
+   names, on both sides of each. */
 #include <openrdson.h>
 #include <stdio.h>
 #include <stdlib.h>

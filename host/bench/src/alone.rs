@@ -6,7 +6,7 @@ use std::process::{Command, Stdio};
 use std::sync::Barrier;
 use std::thread;
 
-/// Of such a process; the group, the row's number in it and the side's number follow.
+/// The first argument of such a process; the group, the row's number in it and the side's number follow.
 pub const ARGUMENT: &str = "--alone";
 
 const PAGE: usize = 4096;
@@ -35,7 +35,7 @@ pub fn ask(group: &str, number: usize, side: usize) -> Alone {
     Alone { lent: lent.parse().unwrap(), peak: peak.parse().unwrap(), time: time.parse().unwrap() }
 }
 
-/// In this process.
+/// Measures the side in this process, and prints the three figures.
 pub fn measure(row: Row, side: usize) {
     let [rust, rattle] = (row.sides)();
     let side = if side == 0 { rust } else { rattle }.expect("no such call");
@@ -43,7 +43,7 @@ pub fn measure(row: Row, side: usize) {
     println!("{lent} {peak} {time}");
 }
 
-/// The side works in a thread, whose stack and heap nothing has used before; it waits while the figures are read, which so takes nothing of these.
+/// The side works in a thread of its own, whose stack and heap nothing has used before. It waits while the figures are read, so that reading uses neither.
 fn measured(side: Side, effort: &Effort) -> Alone {
     read_program();
     let step = Barrier::new(2);

@@ -2,7 +2,7 @@
 use crate::call::Call;
 use crate::case::Case;
 use crate::numbers::{self, MOST};
-use crate::paper::cells::cells;
+use crate::rules::cells::cells;
 use crate::random::Random;
 
 /// The most cells on an axis.

@@ -170,7 +170,7 @@ impl Call {
         }
     }
 
-    /// The refusals it has, in document 01's order.
+    /// The refusals that it has, in the order in which they are tried.
     pub fn refusals(self) -> &'static [u32] {
         refusals::of(self.name())
     }

@@ -27,7 +27,7 @@ pub struct Case {
     pub lent: Vec<Lent>,
 }
 
-/// A name is copied to the beginning of so many bytes, all this one before.
+/// A name is copied to the beginning of so many bytes at most; before the call each is the one below.
 pub const COPY: usize = 40;
 pub const BEFORE: u8 = 0xa5;
 

@@ -1,5 +1,5 @@
-//! What is expected of a case: a refusal of document 01, or else what the unchanged Rust answers. Of a call on name
-//! blocks it is document 01's answer, held to the Rust's.
+//! What is expected of a case: a refusal by the rules (`rules`), or else what the unchanged Rust answers. Of a call on name
+//! blocks it is the answer by the rules, held to the Rust's.
 pub mod layouts;
 mod lookups;
 pub mod meshes;
@@ -11,7 +11,7 @@ pub mod welds;
 
 use crate::call::Call::*;
 use crate::case::{Answer, Case};
-use crate::paper;
+use crate::rules;
 use oracle::core::geometry::*;
 use oracle::meshing::reach::{cells_for, linspace};
 
@@ -19,10 +19,10 @@ pub fn answer(case: &Case) -> Answer {
     if case.call.blocks().is_empty() && !case.call.asks_name() {
         return of_numbers(case);
     }
-    let answer = paper::blocks::answer(case);
+    let answer = rules::blocks::answer(case);
     if lookups::differs(case, &answer) {
         let bytes: Vec<_> = case.lent.iter().map(|lent| &lent.bytes).collect();
-        panic!("document 01 and the Rust differ: {} {bytes:x?} layer {}: {answer:?}", case.call.name(), case.layer());
+        panic!("the rules and the Rust differ: {} {bytes:x?} layer {}: {answer:?}", case.call.name(), case.layer());
     }
     answer
 }
@@ -30,14 +30,14 @@ pub fn answer(case: &Case) -> Answer {
 /// The place of an answer among its call's kinds, if it has one.
 pub fn kind(case: &Case, answer: &Answer) -> Option<usize> {
     match case.call {
-        CheckBlocks => paper::blocks::checked(answer.status, case.block(3)),
+        CheckBlocks => rules::blocks::checked(answer.status, case.block(3)),
         _ if answer.status != 0 || case.call.kinds().is_empty() => None,
         LayerName => Some((answer.values[1] != 0) as usize),
         CopyPhysicalName => Some((answer.values[0] != 0) as usize),
         CellCount => Some(if answer.values[0] == 1 { 0 } else if answer.values[0] < 4096 { 1 } else { 2 }),
         AxisCoordinate => Some(axis_kind(case)),
         TotalVolume => Some(!case.regions.kinds.is_empty() as usize),
-        MaterialNumber => Some(paper::blocks::material_kind(answer.values[0], case.block(0), case.block(1))),
+        MaterialNumber => Some(rules::blocks::material_kind(answer.values[0], case.block(0), case.block(1))),
         _ => Some(answer.values[0] as usize),
     }
 }
@@ -56,7 +56,7 @@ fn axis_kind(case: &Case) -> usize {
 }
 
 fn of_numbers(case: &Case) -> Answer {
-    match paper::status(case) {
+    match rules::status(case) {
         0 => of_the_rust(case),
         status => Answer::refused(status),
     }

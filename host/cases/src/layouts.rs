@@ -3,7 +3,7 @@
 use crate::expected::models::sizes;
 use crate::meshes::lengths;
 use crate::models::{self, Overrides};
-use crate::paper::stacks;
+use crate::rules::stacks;
 use crate::random::Random;
 use crate::regions::{Regions, Row};
 use crate::stacks::Job as Stack;
@@ -16,7 +16,7 @@ const SEEDS: u64 = 0x6c61_796f_7574;
 /// So many layouts are drawn, of which most have no region.
 const LAYOUTS: u64 = 4;
 
-/// A mesh of more nodes than these is not welded, in some layouts than these: the time of a weld grows with the square of its nodes.
+/// A mesh of more nodes than `MANY`, in one layout of 50 than `MORE`, is not welded: the time of a weld grows with the square of its nodes.
 const MANY: usize = 600;
 const MORE: usize = 3000;
 

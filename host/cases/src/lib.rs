@@ -6,7 +6,7 @@ pub mod expected;
 pub mod layouts;
 pub mod meshes;
 pub mod models;
-pub mod paper;
+pub mod rules;
 pub mod polygons;
 pub mod refusals;
 pub mod regions;

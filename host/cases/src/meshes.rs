@@ -51,7 +51,7 @@ pub struct Given {
     pub said: Vec<Kind>,
 }
 
-/// Why a region is not meshed; of each call in document 01's order.
+/// Why a region is not meshed; of each call in the order in which it is tried.
 #[derive(Clone, Copy, PartialEq, Debug)]
 pub enum Fault {
     Lists,
@@ -227,7 +227,7 @@ impl Call {
         }
     }
 
-    /// The reasons that it has, in document 01's order.
+    /// The reasons that it has, in the order in which they are tried.
     pub fn faults(self) -> impl Iterator<Item = Fault> {
         let all: &[Fault] = if self.is_on_box() { &BOX_FAULTS } else { &PRISM_FAULTS };
         all.iter().copied().filter(move |fault| self != Call::MeshBox || *fault != PointLists)

@@ -49,7 +49,7 @@ pub struct Given {
     pub asked: bool,
 }
 
-/// Why a model is not meshed, in document 01's order.
+/// Why a model is not meshed, in the order in which it is tried.
 #[derive(Clone, Copy, PartialEq, Debug)]
 pub enum Fault {
     RegionLists,
@@ -149,7 +149,7 @@ pub const KINDS: [(Kind, &str); 23] = [
 /// Those of a call with overrides.
 const OF_OVERRIDES: [Kind; 6] = [Overridden, LaterWins, DefaultBad, OtherBad, PrismWithBad, MostOverrides];
 
-/// Why a region of a model may be refused, in document 01's order: a box, then a prism.
+/// Why a region of a model may be refused, in the order in which it is tried: a box, then a prism.
 pub const REGION_FAULTS: [meshes::Fault; 21] = {
     use meshes::Fault::*;
     [
@@ -180,7 +180,7 @@ impl Call {
         }
     }
 
-    /// The reasons that it has, in document 01's order.
+    /// The reasons that it has, in the order in which they are tried.
     pub fn faults(self) -> impl Iterator<Item = Fault> {
         let is_its = move |fault: &Fault| self.has_overrides() || !matches!(fault, OverrideLists | ManyOverrides | OverrideMaterial);
         FAULTS.iter().map(|fault| fault.0).filter(is_its)

@@ -1,7 +1,7 @@
-//! Document 01's refusals of each call.
+//! The refusals of each call, by the rules.
 
-/// The calls, by their exported names without `openrdson_`, and the numbers that they can give, each once, in document 01's order. 10 is left out: a closed
-/// ring crosses every height an even number of times.
+/// The calls, by their exported names without `openrdson_`, and the numbers that they can give, each once, in the order in which they are tried. 10 is left
+/// out: a closed ring crosses every height an even number of times.
 const REFUSALS: [(&[&str], &[u32]); 21] = [
     // "Cleaning, area, rectangle: 16, 2, 1; cleaning then 12."
     (&["polygon_signed_area", "polygon_area", "is_ccw", "is_axis_aligned_rectangle", "bbox_from_points"], &[16, 2, 1]),

@@ -126,7 +126,7 @@ fn line(r: &mut Random, n: usize) -> Ring {
     (0..n).map(|i| (x0 + dx * (i as f64 * step), y0 + dy * (i as f64 * step))).collect()
 }
 
-/// The second half walks the first half's way back, so that the area is zero but for the rounding.
+/// The second half goes back along the first half, so that the area is zero but for the rounding.
 fn there_and_back(r: &mut Random, n: usize) -> Ring {
     let mut ring = points(n / 2, || (r.unit() - 0.5) * 100.0);
     ring.extend(ring.clone().iter().rev());

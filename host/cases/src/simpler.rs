@@ -1,4 +1,4 @@
-//! The smallest input found that is still unlike: what can be left out of an input, and which of its numbers can be plainer.
+//! The smallest input found on which the two sides still differ: what can be left out of an input, and which of its numbers can be plainer.
 mod blocks;
 mod cases;
 mod layouts;

@@ -102,7 +102,7 @@ pub fn heights(r: &mut Random) -> [f64; 2] {
     }
 }
 
-/// A box or a prism with a material, a net and a polygon, of which nothing depends.
+/// A box or a prism with a material, a net and a polygon, on which nothing depends.
 pub fn region(call: Call, r: &mut Random, number: u64) -> Case {
     let mut case = if call == Call::BoxRegionVolume { boxed(call, r) } else { prism(call, r, number) };
     case.region = std::array::from_fn(|_| if r.one_in(3) { r.word() as u32 } else { r.pick(&[0, 1, 768, 769, u32::MAX]) });
@@ -132,7 +132,7 @@ fn long_prism(call: Call, r: &mut Random, heights: [f64; 2]) -> Case {
     of(call, heights, start as u32, count, xs, ys)
 }
 
-/// Numbers that nobody looks at.
+/// Numbers that no call looks at.
 pub fn noise(r: &mut Random, n: usize) -> Vec<f64> {
     (0..n).map(|_| numbers::any(r)).collect()
 }

@@ -62,7 +62,7 @@ fn count(r: &mut Random) -> usize {
     }
 }
 
-/// Some rings, with numbers between them that nobody looks at; one list in twenty has a ring of 513 points.
+/// Some rings, with numbers between them that no call looks at; one list in twenty has a ring of 513 points.
 fn points(r: &mut Random, number: u64) -> Points {
     let (mut all, mut parts) = (vec![], vec![(0, 0)]);
     for _ in 0..r.between(1, 6) {

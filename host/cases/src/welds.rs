@@ -38,7 +38,7 @@ pub enum Given {
     Volume(f64),
 }
 
-/// Why a mesh is refused, in document 01's order.
+/// Why a mesh is refused, in the order in which it is tried.
 #[derive(Clone, Copy, PartialEq, Debug)]
 pub enum Fault {
     NodeLists,
@@ -203,7 +203,7 @@ impl Call {
         }
     }
 
-    /// The reasons that it has, in document 01's order.
+    /// The reasons that it has, in the order in which they are tried.
     pub fn faults(self) -> impl Iterator<Item = Fault> {
         let of_weld = [OutNodeLists, OutPlaceList, OutRegionList, Tolerance, NodeRoom, ElementRoom];
         FAULTS.iter().map(|fault| fault.0).filter(move |fault| self.writes() || !of_weld.contains(fault))

@@ -1,10 +1,10 @@
 //! The table of cases by call and by status.
 use cases::refusals::{self, DIAGNOSTICS};
 
-/// The statuses that have a column: accepted, and document 01's refusals but for 10.
+/// The statuses that have a column: accepted, and the refusals but for 10.
 const COLUMNS: [u32; 16] = [0, 1, 2, 3, 4, 5, 6, 7, 8, 9, 11, 12, 13, 14, 15, 16];
 
-/// How often each status was answered; those past 16 are one.
+/// How often each status was answered; all above 16 are counted as one.
 #[derive(Clone, Copy, Default)]
 pub struct Statuses([u64; 18]);
 
@@ -22,7 +22,7 @@ impl Statuses {
     }
 }
 
-/// What a call answered, or the diagnostics that it wrote, beside what document 01 lets it.
+/// What a call answered, or the diagnostics that it wrote, beside the numbers that it can give.
 pub struct Row {
     call: &'static str,
     is_diagnostics: bool,
@@ -48,7 +48,7 @@ impl Row {
         status == 0 || self.can.contains(&status)
     }
 
-    /// Statuses that document 01 gives it, and that were not answered.
+    /// Statuses that it can give, and that were not answered.
     pub fn not_seen(&self) -> Vec<String> {
         let missing = COLUMNS.into_iter().filter(|status| self.can_give(*status) && self.answered.of(*status) == 0);
         missing.map(|status| format!("{} {status} was not seen", self.number())).collect()

@@ -1,5 +1,5 @@
 //! Copies of small sound blocks, each with one thing changed: every call that reads such a block is asked, and held to
-//! document 01's answer, wherever the copy stands.
+//! the answer by the rules, wherever the copy stands.
 mod asked;
 mod changes;
 mod memory;
@@ -27,7 +27,7 @@ const PLACES: [&str; 5] = ["amid 00", "amid ff", "amid the sound block", "past u
 #[derive(Default)]
 struct Held {
     copies: u64,
-    /// Answers of document 01, by their status; each is asked for in every place.
+    /// Answers by the rules, counted by their status; each is asked for in every place.
     by_status: [u64; 17],
     mismatches: u64,
 }

@@ -1,5 +1,5 @@
-//! Holds the unchanged Rust to what docs/DIFFERENCES.md says of it: the inputs that it accepts, or panics on, where
-//! document 01 refuses.
+//! Holds the unchanged Rust to what docs/DIFFERENCES.md says of it: the inputs that it accepts, or panics on, and that are
+//! refused here.
 use oracle::core::geometry::*;
 use oracle::core::mesh::{Element, ElementType, Mesh};
 use oracle::geometry::{extrude_box, total_volume};

@@ -1,5 +1,5 @@
-// Stacks a layout, meshes the model in three ways, welds and measures. Every value is printed whole: a float's text is
-// another for every other float.
+// Stacks a layout, meshes the model in three ways, welds and measures. Every value is printed whole: two different floats
+// never have the same text.
 
 pub fn lines() -> Vec<String> {
     let mut lines = Vec::new();

@@ -1,5 +1,5 @@
-//! One program, job.rs, on the original and on the crate `openrdson`: it moves over by its `use` lines and by what it does
-//! with a refusal, and prints the same.
+//! One program, job.rs, on the original and on the crate `openrdson`: only its `use` lines and what it does with a refusal
+//! differ, and it gives the same lines.
 use std::process::ExitCode;
 
 mod original {
@@ -18,7 +18,7 @@ mod moved {
     use openrdson::*;
 
     fn done<T>(value: Result<T, Refusal>) -> T {
-        value.expect("a job that document 01 accepts")
+        value.expect("a job that the rules accept")
     }
 
     include!("job.rs");

@@ -1,4 +1,4 @@
-//! The mesh step of OpenRdson, proved, in the shapes of the original: a program moves over by its `use` lines.
+//! The mesh step of OpenRdson, proved, in the shapes of the original: a program of the original changes its `use` lines.
 //!
 //! | The original | Here |
 //! |---|---|
@@ -6,8 +6,8 @@
 //! | `geometry` | `openrdson::geometry` |
 //! | `meshing` | `openrdson::meshing` |
 //!
-//! or all of it at once, `use openrdson::*`. What the original never turns down, and document 01 does, is a `Result` here,
-//! so that such a call gets a `?`; a [`Refusal`] becomes a `String` by itself where the original's texts were. Diagnostics
+//! or all of it at once, `use openrdson::*`. A call that can be refused here and not in the original is a `Result`,
+//! so that it gets a `?`; a [`Refusal`] becomes a `String` by itself where the original's texts were. Diagnostics
 //! of a model are a struct that prints as the original's lines.
 //!
 //! The work is done by the C functions of crates/c_api, to which this crate lends lists: it lays a program's types out as
@@ -34,7 +34,7 @@ pub use crate::geometry::*;
 pub use crate::meshing::*;
 pub use refusal::Refusal;
 
-/// Document 01's limits.
+/// How much may be lent and meshed; past a limit a call is refused.
 pub mod limits {
     pub const RING_POINTS: usize = 512;
     pub const POLYGONS: usize = 4096;

@@ -2,7 +2,7 @@
 use std::error::Error;
 use std::fmt;
 
-/// A case for each of document 01's numbers, from 1 to 16.
+/// A case for each refusal's number, from 1 to 16.
 #[derive(Debug, Clone, Copy, PartialEq, Eq, PartialOrd, Ord, Hash)]
 #[repr(u32)]
 pub enum Refusal {
@@ -47,7 +47,7 @@ impl Refusal {
         UnequalLists,
     ];
 
-    /// Document 01's number.
+    /// The number that the C functions return.
     pub fn number(self) -> u32 {
         self as u32
     }
@@ -57,7 +57,7 @@ impl Refusal {
         Refusal::ALL.into_iter().find(|refusal| refusal.number() == number)
     }
 
-    /// Document 01's words.
+    /// What is wrong, in words.
     pub fn words(self) -> &'static str {
         match self {
             NumberOutOfRange => "number not finite or too large",

@@ -1,4 +1,4 @@
-//! Document 01's shapes, refusals and limits, through the safe calls.
+//! Worked shapes, refusals and limits, through the safe calls.
 use openrdson::*;
 
 fn ring(points: &[(f64, f64)]) -> Vec<Point> {

@@ -94,7 +94,7 @@ impl Job {
         self.model.regions.iter().enumerate().map(line).collect()
     }
 
-    /// Document 01's number for what the Rust says of a region; 0 where it says nothing.
+    /// The refusal's number for what the Rust says of a region; 0 where it says nothing.
     pub fn diagnostic(&self, i: usize) -> u32 {
         let start = format!("region {i} (");
         match self.refused.iter().find(|text| text.starts_with(&start)) {

@@ -1,6 +1,6 @@
-//! What is expected of a layout on its way to a volume: document 01's regions, each meshed as a model's are, and the weld and the volume of that mesh. Where
-//! every name is UTF-8 and the Rust knows every refusal that there is, this is held to the Rust's `assemble_stack`, `mesh_model`, `weld_nodes` and
-//! `mesh_volume`, each on what the one before it gave.
+//! What is expected of a layout on its way to a volume: its regions by the rules (`rules`), each meshed as a model's are, and the weld and the volume of that
+//! mesh. Where every name is UTF-8 and the Rust knows every refusal that there is, this is held to the Rust's `assemble_stack`, `mesh_model`, `weld_nodes`
+//! and `mesh_volume`, each on what the one before it gave.
 use super::meshes as of_meshes;
 use super::models::{self, is_for_the_rust, quiet, regions_of, tried};
 use super::stacks::{self, inputs};
@@ -58,14 +58,14 @@ fn lists_of(mesh: &meshes::Given, regions: &[u32]) -> Mesh {
 fn hold(path: &Path, solids: &SolidModel) {
     let (given, [lateral_cell, z_cell]) = (&path.meshed, path.model.cells);
     let (mesh, texts) = quiet(|| mesh_model(solids, &MeshConfig { lateral_cell, z_cell }));
-    assert!(given.mesh.same(&of_meshes::given(&mesh, 0)), "document 01 and the Rust differ in a layout's mesh");
+    assert!(given.mesh.same(&of_meshes::given(&mesh, 0)), "the rules and the Rust differ in a layout's mesh");
     let polygon_of = |region: &u32| solids.regions[*region as usize].source_polygon.unwrap() as u32;
-    assert!(given.regions.iter().map(polygon_of).eq(regions_of(&mesh)), "document 01 and the Rust differ in an element's region");
-    assert!(given.tried == tried(&path.model.regions.kinds, &texts), "document 01 and the Rust differ in a diagnostic: {texts:?}");
+    assert!(given.regions.iter().map(polygon_of).eq(regions_of(&mesh)), "the rules and the Rust differ in an element's region");
+    assert!(given.tried == tried(&path.model.regions.kinds, &texts), "the rules and the Rust differ in a diagnostic: {texts:?}");
     if let Some([(weld, _), (measure, volume)]) = &path.whole {
         let welded = weld_nodes(&mesh, weld.tolerance);
         let lists = welds::lists_of(&welded, measure.mesh.regions.clone());
-        assert!(lists.same(&measure.mesh), "document 01 and the Rust differ in a layout's welded mesh");
-        assert!(matches!(volume, Whole::Volume(x) if x.to_bits() == mesh_volume(&welded).to_bits()), "document 01 and the Rust differ in a layout's volume");
+        assert!(lists.same(&measure.mesh), "the rules and the Rust differ in a layout's welded mesh");
+        assert!(matches!(volume, Whole::Volume(x) if x.to_bits() == mesh_volume(&welded).to_bits()), "the rules and the Rust differ in a layout's volume");
     }
 }

@@ -1,5 +1,5 @@
-//! What is expected of a call that meshes a region: a refusal of document 01, or else the unchanged Rust's mesh, after the nodes and elements that are
-//! there. Where the Rust has a text for a refusal, the two must be the same.
+//! What is expected of a call that meshes a region: a refusal by the rules (`rules`), or else the unchanged Rust's mesh, after the nodes and
+//! elements that are there. Where the Rust has a text for a refusal, the two must be the same.
 mod boxes;
 mod prisms;
 
@@ -8,7 +8,7 @@ pub use prisms::sizes as prism_sizes;
 use super::points;
 use crate::meshes::Kind::*;
 use crate::meshes::{Fault, Given, Job, Solid};
-use crate::paper::meshes::prisms::part;
+use crate::rules::meshes::prisms::part;
 use oracle::core::geometry::{self, SolidRegion};
 use oracle::core::mesh::{Element, ElementType, Mesh};
 
@@ -39,7 +39,7 @@ pub fn fault_of(is_box: bool, why: &str) -> Fault {
     if is_box { boxes::fault_of(why) } else { prisms::fault_of(why) }
 }
 
-/// Those that the Rust has a text for: it refuses these and no other.
+/// Whether the Rust has a text for the refusal: it refuses these and no other.
 pub fn is_known_to_the_rust(fault: Fault) -> bool {
     use Fault::*;
     matches!(fault, Extent | NotPositive | Upside | TooFew | OneLevel | NoTrapezoid)

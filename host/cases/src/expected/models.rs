@@ -1,13 +1,13 @@
-//! What is expected of a call that meshes a model: a refusal of document 01, or else each region as the single region call's expected answer has it, after
-//! what is there. Where the mesh was empty and the Rust knows every refusal that there is, this is held to the Rust's own model call on all the regions: its
-//! nodes, its elements, the region of each, and which regions its diagnostics name, and why.
+//! What is expected of a call that meshes a model: a refusal by the rules (`rules`), or else each region as the single region call's expected answer has it,
+//! after what is there. Where the mesh was empty and the Rust knows every refusal that there is, this is held to the Rust's own model call on all the
+//! regions: its nodes, its elements, the region of each, and which regions its diagnostics name, and why.
 use super::meshes::{self, fault_of, is_known_to_the_rust, true_of};
 use super::points;
 use crate::meshes as single;
 use crate::models::Kind::*;
 use crate::models::{Call, Fault, Given, Job, Kind};
-use crate::paper::meshes::MESH_MOST;
-use crate::paper::models::{cells, judged};
+use crate::rules::meshes::MESH_MOST;
+use crate::rules::models::{cells, judged};
 use crate::regions::Row;
 use oracle::core::geometry::{Solid, SolidModel, SolidRegion};
 use oracle::core::log;
@@ -19,9 +19,9 @@ pub fn answer(job: &Job) -> Result<Given, Fault> {
     let mut given = by_region(job, job.counts, job.lengths);
     if is_for_the_rust(job, &given) {
         let (mesh, texts) = of_the_rust(job);
-        assert!(single::Given::same(&given.mesh, &meshes::given(&mesh, 0)), "document 01 and the Rust's model differ in the mesh");
-        assert!(given.regions == regions_of(&mesh), "document 01 and the Rust's model differ in an element's region");
-        assert!(given.tried == tried(&job.regions.kinds, &texts), "document 01 and the Rust's model differ in a diagnostic: {texts:?}");
+        assert!(single::Given::same(&given.mesh, &meshes::given(&mesh, 0)), "the rules and the Rust's model differ in the mesh");
+        assert!(given.regions == regions_of(&mesh), "the rules and the Rust's model differ in an element's region");
+        assert!(given.tried == tried(&job.regions.kinds, &texts), "the rules and the Rust's model differ in a diagnostic: {texts:?}");
         given.asked = true;
     }
     given.said = said(job, &given);
@@ -37,7 +37,7 @@ pub fn sizes(job: &Job) -> [usize; 2] {
     [mesh.nodes.len(), mesh.kinds.len()]
 }
 
-/// The Rust's mesh of each region after those before it, or document 01's refusal, in a mesh of these counts and of lists of these lengths.
+/// The Rust's mesh of each region after those before it, or its refusal by the rules, in a mesh of these counts and of lists of these lengths.
 fn by_region(job: &Job, [nodes, elements]: [usize; 2], lengths: [usize; 6]) -> Given {
     let mesh = single::Given { nodes: vec![], kinds: vec![], places: vec![], said: vec![] };
     let mut given = Given { mesh, regions: vec![], tried: vec![], said: vec![], asked: false };

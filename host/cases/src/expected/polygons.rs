@@ -1,7 +1,7 @@
-//! What is expected of a call on a ring that writes lists: a refusal of document 01, or else what the unchanged Rust answers. The cleaned ring is document
-//! 01's too, and the two must be the same.
+//! What is expected of a call on a ring that writes lists: a refusal by the rules (`rules`), or else what the unchanged Rust answers. The cleaned ring is also
+//! worked out by the rules, and the two must be the same.
 use super::points;
-use crate::paper::polygons as paper;
+use crate::rules::polygons as rules;
 use crate::polygons::Kind::*;
 use crate::polygons::{Call, Given, Job, Kind};
 use oracle::core::geometry::{polygon_signed_area, Point};
@@ -9,7 +9,7 @@ use oracle::meshing::reach::dedup_ring;
 use oracle::meshing::triangulate_polygon;
 
 pub fn answer(job: &Job) -> Result<Given, u32> {
-    match paper::fault(job) {
+    match rules::fault(job) {
         0 => {}
         status => return Err(status),
     }
@@ -18,11 +18,11 @@ pub fn answer(job: &Job) -> Result<Given, u32> {
         Call::DedupRing => (dedup_ring(&asked), vec![]),
         Call::TriangulatePolygon => triangulated(&asked)?,
     };
-    if !paper::has_room(job, rust.len(), triangles.len()) {
+    if !rules::has_room(job, rust.len(), triangles.len()) {
         return Err(12);
     }
-    let (ring, mut kinds) = paper::cleaned(&asked.iter().map(|p| (p.x, p.y)).collect::<Vec<_>>());
-    assert!(same(&ring, &rust), "document 01 and the Rust clean a ring differently: {asked:?}");
+    let (ring, mut kinds) = rules::cleaned(&asked.iter().map(|p| (p.x, p.y)).collect::<Vec<_>>());
+    assert!(same(&ring, &rust), "the rules and the Rust clean a ring differently: {asked:?}");
     if dedup_ring(&rust).len() < rust.len() {
         kinds.push(AgainDropped);
     }

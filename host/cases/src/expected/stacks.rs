@@ -1,10 +1,10 @@
-//! What is expected of a stacking job: document 01's answer. Where it is accepted and every name is UTF-8, it is held to the Rust's: every region,
+//! What is expected of a stacking job: its answer by the rules (`rules`). Where it is accepted and every name is UTF-8, it is held to the Rust's: every region,
 //! and the report, whose counts are rebuilt from the outcomes.
 use super::lookups::{layer_names, map, stack};
 use super::points;
 use super::regions::{net_name, row};
 use crate::blocks::Rows;
-use crate::paper;
+use crate::rules;
 use crate::stacks::{Given, Job};
 use oracle::core::geometry::{LayerKey, SolidModel};
 use oracle::core::layout::{LayoutIR, LayoutPolygon};
@@ -13,11 +13,11 @@ use oracle::geometry::{assemble_stack, StackAssemblyReport};
 use std::collections::BTreeMap;
 
 pub fn answer(job: &Job) -> Result<Given, u32> {
-    let mut given = paper::stacks::answer(job)?;
+    let mut given = rules::stacks::answer(job)?;
     if let Some(inputs) = inputs(job) {
         let (model, report) = assemble_stack(&inputs.layout, &inputs.stack, &inputs.map);
-        assert!(same_regions(&inputs, job, &given, &model), "document 01 and the Rust differ in a region");
-        assert!(same_report(&inputs, job, &given, &report), "document 01 and the Rust's report differ");
+        assert!(same_regions(&inputs, job, &given, &model), "the rules and the Rust differ in a region");
+        assert!(same_report(&inputs, job, &given, &report), "the rules and the Rust's report differ");
         given.asked = true;
     }
     Ok(given)

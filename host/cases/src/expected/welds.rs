@@ -1,9 +1,9 @@
-//! What is expected of a call on a whole mesh: a refusal of document 01, or else what the unchanged Rust answers. The weld and the volume are document 01's
-//! too, and the two must be the same.
+//! What is expected of a call on a whole mesh: a refusal by the rules (`rules`), or else what the unchanged Rust answers. The weld and the volume are also
+//! worked out by the rules, and the two must be the same.
 use super::meshes::{given, is_minus_zero, true_of};
 use crate::meshes;
-use crate::paper::meshes::MESH_MOST;
-use crate::paper::welds as paper;
+use crate::rules::meshes::MESH_MOST;
+use crate::rules::welds as rules;
 use crate::welds::Kind::*;
 use crate::welds::{Call, Fault, Given, Job, Kind, Mesh};
 use oracle::core::mesh::{self as rust, Element, ElementType, Point3};
@@ -13,7 +13,7 @@ use oracle::meshing::{mesh_volume, weld_nodes};
 const PAIRS: usize = 100;
 
 pub fn answer(job: &Job) -> Result<(Given, Vec<Kind>), Fault> {
-    paper::judged(job)?;
+    rules::judged(job)?;
     let mesh = of_the_rust(&job.mesh);
     Ok(match job.call {
         Call::WeldNodes => welded(job, &weld_nodes(&mesh, job.tolerance)),
@@ -55,15 +55,15 @@ fn regions_of(mesh: &rust::Mesh) -> Vec<u32> {
 
 fn welded(job: &Job, rust: &rust::Mesh) -> (Given, Vec<Kind>) {
     let (mesh, regions) = (given(rust, 0), regions_of(rust));
-    let (kept, becomes) = paper::welded(&job.mesh, job.tolerance);
-    assert!(mesh.same(&by_paper(&job.mesh, &kept, &becomes)), "document 01 and the Rust weld a mesh differently: {}", job.tolerance);
-    assert!(regions == job.mesh.regions, "document 01 and the Rust differ in an element's region");
+    let (kept, becomes) = rules::welded(&job.mesh, job.tolerance);
+    assert!(mesh.same(&by_rules(&job.mesh, &kept, &becomes)), "the rules and the Rust weld a mesh differently: {}", job.tolerance);
+    assert!(regions == job.mesh.regions, "the rules and the Rust differ in an element's region");
     let said = true_of(of_mesh(job).into_iter().chain(of_joins(job, &kept, &becomes)).chain(of_keys(job)).chain(of_room(job, &kept)));
     (Given::Welded { mesh, regions }, said.collect())
 }
 
 /// The nodes that are kept; the places "renumbered", where one is used.
-fn by_paper(mesh: &Mesh, kept: &[usize], becomes: &[u32]) -> meshes::Given {
+fn by_rules(mesh: &Mesh, kept: &[usize], becomes: &[u32]) -> meshes::Given {
     let renumbered = |place: &u32| becomes.get(*place as usize).copied().unwrap_or(*place);
     meshes::Given {
         nodes: kept.iter().map(|place| mesh.node(*place)).collect(),
@@ -74,10 +74,10 @@ fn by_paper(mesh: &Mesh, kept: &[usize], becomes: &[u32]) -> meshes::Given {
 }
 
 fn measured(job: &Job, rust: f64) -> (Given, Vec<Kind>) {
-    let volumes: Vec<f64> = paper::volumes(&job.mesh).collect();
-    let total = paper::total(volumes.iter().copied());
-    assert!(total.to_bits() == rust.to_bits(), "document 01 and the Rust differ in a volume: {total} {rust}");
-    let of_volume = [(Flat, !volumes.is_empty() && total == 0.0), (OrderShows, paper::total(volumes.into_iter().rev()) != total)];
+    let volumes: Vec<f64> = rules::volumes(&job.mesh).collect();
+    let total = rules::total(volumes.iter().copied());
+    assert!(total.to_bits() == rust.to_bits(), "the rules and the Rust differ in a volume: {total} {rust}");
+    let of_volume = [(Flat, !volumes.is_empty() && total == 0.0), (OrderShows, rules::total(volumes.into_iter().rev()) != total)];
     let said = true_of(of_mesh(job).into_iter().chain(of_volume).chain(of_prisms(&job.mesh)));
     (Given::Volume(rust), said.collect())
 }
@@ -139,9 +139,9 @@ fn of_keys(job: &Job) -> Vec<(Kind, bool)> {
         (NearHalf, is_any(&|q| is_half(q.next_up()) || is_half(q.next_down()))),
         (NotANumber, is_any(&f64::is_nan)),
         (Infinite, is_any(&f64::is_infinite)),
-        (CappedHigh, is_any(&|q| q >= paper::CAP)),
-        (CappedLow, is_any(&|q| q < -paper::CAP)),
-        (AtCap, is_any(&|q| q.abs() == paper::CAP)),
+        (CappedHigh, is_any(&|q| q >= rules::CAP)),
+        (CappedLow, is_any(&|q| q < -rules::CAP)),
+        (AtCap, is_any(&|q| q.abs() == rules::CAP)),
         (ToleranceZero, tolerance.to_bits() == 0),
         (ToleranceMinusZero, is_minus_zero(tolerance)),
         (ToleranceNegative, tolerance < 0.0),
@@ -164,7 +164,7 @@ fn of_prisms(mesh: &Mesh) -> [(Kind, bool); 4] {
     let of = |i: usize| mesh.used(i).iter().map(|place| mesh.node(*place as usize)).collect::<Vec<_>>();
     let prisms: Vec<_> = (0..mesh.kinds.len()).filter(|i| mesh.kinds[*i] == 2).map(of).collect();
     let is_any = |test: &dyn Fn([f64; 3], [f64; 3], f64) -> bool| {
-        prisms.iter().any(|nodes| test(paper::cross(nodes), paper::heights(nodes), paper::area(nodes)))
+        prisms.iter().any(|nodes| test(rules::cross(nodes), rules::heights(nodes), rules::area(nodes)))
     };
     [
         (Tilted, is_any(&|cross, _, _| cross.iter().all(|side| *side != 0.0))),

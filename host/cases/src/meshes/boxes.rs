@@ -3,7 +3,7 @@ mod by_hand;
 mod draw;
 
 use super::{lengths, Call, Job, Solid};
-use crate::paper::meshes::boxes::{axes, sizes};
+use crate::rules::meshes::boxes::{axes, sizes};
 
 pub fn job(call: Call, seed: u64, number: u64) -> Job {
     by_hand::job(call, number).unwrap_or_else(|| draw::job(call, seed, number))

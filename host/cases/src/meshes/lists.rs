@@ -1,7 +1,7 @@
 //! The mesh's lists: how long they are, and what is there already.
 use super::Job;
 use crate::extrusions;
-use crate::paper::meshes::MESH_MOST;
+use crate::rules::meshes::MESH_MOST;
 use crate::polygons::room;
 use crate::random::Random;
 

@@ -3,7 +3,7 @@ use super::draw::Sketch;
 use crate::axes;
 use crate::meshes::prisms::{draw::heights, rings};
 use crate::numbers;
-use crate::paper::meshes::boxes::axes as cells_of;
+use crate::rules::meshes::boxes::axes as cells_of;
 use crate::random::Random;
 use crate::regions::Row;
 use crate::rings::Ring;

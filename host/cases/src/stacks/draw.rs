@@ -3,7 +3,7 @@ use super::{layers, spoil, Job};
 use crate::blocks::{Lent, Rows};
 use crate::case::List;
 use crate::numbers;
-use crate::paper;
+use crate::rules;
 use crate::random::Random;
 use crate::rings;
 use crate::rows;
@@ -137,7 +137,7 @@ fn lent(r: &mut Random, number: u64, sketch: Sketch) -> Job {
     };
     let blocks = sketch.blocks.into_iter().map(Lent::block).collect();
     let mut job = Job { blocks, layers: sketch.layers, polygons: sketch.polygons, xs, ys, regions: [n; 12], outcomes: n };
-    let rows = paper::stacks::answer(&job).map_or(n, |given| given.rows.len());
+    let rows = rules::stacks::answer(&job).map_or(n, |given| given.rows.len());
     match r.below(3) {
         0 => {}
         1 => job.regions = [rows; 12],
@@ -149,7 +149,7 @@ fn lent(r: &mut Random, number: u64, sketch: Sketch) -> Job {
     job
 }
 
-/// The list, and behind it what nobody looks at, up to this length.
+/// The list, and behind it numbers that no call looks at, up to this length.
 fn lengthened(list: &[f64], length: usize) -> List {
     let mut all = list.to_vec();
     all.extend_from_slice(&long(0, length - list.len()));

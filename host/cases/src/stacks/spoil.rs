@@ -3,7 +3,7 @@ use super::{Job, BLOCKS};
 use crate::blocks::Lent;
 use crate::damage::damaged;
 use crate::numbers;
-use crate::paper;
+use crate::rules;
 use crate::random::Random;
 use crate::rings;
 use crate::solids;
@@ -94,6 +94,6 @@ fn short(r: &mut Random, job: &mut Job) {
         job.outcomes = job.layers.len().saturating_sub(1);
         return;
     }
-    let rows = paper::stacks::answer(job).map_or(0, |given| given.rows.len());
+    let rows = rules::stacks::answer(job).map_or(0, |given| given.rows.len());
     job.regions = [rows.saturating_sub(1); 12];
 }

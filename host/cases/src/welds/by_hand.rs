@@ -2,8 +2,8 @@
 use super::{Call, Job, Mesh};
 use crate::meshes::lengths;
 use crate::numbers::MOST;
-use crate::paper::meshes::MESH_MOST;
-use crate::paper::welds::kept;
+use crate::rules::meshes::MESH_MOST;
+use crate::rules::welds::kept;
 use std::f64::{INFINITY, NAN, NEG_INFINITY};
 
 /// 2^-43: 2^20 has the quotient 2^63.

@@ -2,7 +2,7 @@
 use super::{made, spoil, used, Call, Job, Mesh};
 use crate::meshes::lists;
 use crate::numbers::{self, MOST};
-use crate::paper::welds::kept;
+use crate::rules::welds::kept;
 use crate::random::Random;
 
 /// Their own numbers among the calls, so that no other call draws the same.

@@ -52,7 +52,7 @@ impl Default for Bbox {
 }
 
 impl Bbox {
-    /// The box that absorbs the first point.
+    /// The empty box: extended by a point, it is that point's box.
     pub fn empty() -> Bbox {
         calls::bbox_empty()
     }

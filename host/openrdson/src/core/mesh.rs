@@ -13,7 +13,7 @@ pub enum ElementType {
 impl ElementType {
     pub const ALL: [ElementType; 4] = [ElementType::Tet, ElementType::Hex, ElementType::Prism, ElementType::Pyramid];
 
-    /// Document 01's number.
+    /// The number that stands for the kind in a list.
     pub fn number(self) -> u8 {
         self as u8
     }
@@ -44,7 +44,7 @@ pub struct Element {
 pub struct Mesh {
     pub nodes: Vec<Point3>,
     pub elements: Vec<Element>,
-    /// Document 01 leaves sets out: a mesh that is made has none, and neither has a welded one, as in the original.
+    /// No call looks at sets. A mesh that is made has none, and neither has a welded one, as in the original.
     pub sets: BTreeMap<String, Vec<u32>>,
 }
 

@@ -2,21 +2,21 @@
 use super::{is_minus_zero, region, sizes_of, true_of};
 use crate::meshes::Kind::*;
 use crate::meshes::{Fault, Job, Kind};
-use crate::paper::meshes::boxes as paper;
+use crate::rules::meshes::boxes as rules;
 use oracle::core::mesh::Mesh;
 use oracle::meshing::reach::linspace;
 use oracle::meshing::{mesh_region, MeshConfig};
 
 pub fn meshed(job: &Job, bounds: &[f64; 6]) -> Result<(Mesh, Vec<Kind>), Fault> {
-    let judged = paper::judged(job, bounds);
+    let judged = rules::judged(job, bounds);
     if !matches!(judged, Ok(()) | Err(Fault::Extent | Fault::NotPositive)) {
         judged?;
     }
     let [lateral_cell, z_cell] = job.cells;
     let rust = mesh_region(&region(job), &MeshConfig { lateral_cell, z_cell }).map_err(|why| fault_of(&why));
-    assert_eq!(rust.as_ref().err(), judged.as_ref().err(), "document 01 and the Rust differ: {bounds:?} {:?}", job.cells);
+    assert_eq!(rust.as_ref().err(), judged.as_ref().err(), "the rules and the Rust differ: {bounds:?} {:?}", job.cells);
     let mesh = rust?;
-    assert_eq!(sizes_of(&mesh), paper::sizes(bounds, &job.cells));
+    assert_eq!(sizes_of(&mesh), rules::sizes(bounds, &job.cells));
     Ok((mesh, said(job, bounds)))
 }
 
@@ -32,7 +32,7 @@ pub fn fault_of(why: &str) -> Fault {
 /// What is counted of a box that is meshed.
 fn said(job: &Job, bounds: &[f64; 6]) -> Vec<Kind> {
     let [min_x, min_y, max_x, max_y, z_bottom, z_top] = *bounds;
-    let axes = paper::axes(bounds, &job.cells);
+    let axes = rules::axes(bounds, &job.cells);
     let ends = [(min_x, max_x), (min_y, max_y), (z_bottom, z_top)];
     let repeats = |((low, high), n): (&(f64, f64), &f64)| linspace(*low, *high, *n as usize).windows(2).any(|two| two[0] == two[1]);
     let kinds = [

@@ -2,9 +2,9 @@
 use super::{is_minus_zero, region, sizes_of, true_of};
 use crate::meshes::Kind::*;
 use crate::meshes::{Fault, Job, Kind, Solid};
-use crate::paper::meshes::prisms as paper;
-use crate::paper::meshes::room;
-use crate::paper::meshes::scanline::{scanned, Scanned};
+use crate::rules::meshes::prisms as rules;
+use crate::rules::meshes::room;
+use crate::rules::meshes::scanline::{scanned, Scanned};
 use oracle::core::geometry::Point;
 use oracle::core::mesh::Mesh;
 use oracle::meshing::reach::{dedup_ring, ring_is_rectilinear};
@@ -14,13 +14,13 @@ use oracle::meshing::{mesh_region, triangulate_polygon, MeshConfig};
 const CELLS: MeshConfig = MeshConfig { lateral_cell: f64::NAN, z_cell: f64::NAN };
 
 pub fn meshed(job: &Job) -> Result<(Mesh, Vec<Kind>), Fault> {
-    let judged = paper::judged(job);
+    let judged = rules::judged(job);
     if !matches!(judged, Ok(()) | Err(Fault::Upside)) {
         judged?;
     }
     let rust = mesh_region(&region(job), &CELLS).map_err(|why| fault_of(&why));
     if judged.is_err() {
-        assert_eq!(rust.as_ref().err(), judged.as_ref().err(), "document 01 and the Rust differ: {:?}", paper::part(job));
+        assert_eq!(rust.as_ref().err(), judged.as_ref().err(), "the rules and the Rust differ: {:?}", rules::part(job));
         judged?;
     }
     let ring = Footprint::of(job);
@@ -35,9 +35,9 @@ pub fn meshed(job: &Job) -> Result<(Mesh, Vec<Kind>), Fault> {
     Ok((mesh, said))
 }
 
-/// How many nodes and elements the Rust's mesh has; none where document 01 refuses the prism, whatever the mesh's lists.
+/// How many nodes and elements the Rust's mesh has; none where the rules refuse the prism, whatever the mesh's lists are.
 pub fn sizes(job: &Job) -> Option<[usize; 2]> {
-    paper::judged(job).ok()?;
+    rules::judged(job).ok()?;
     mesh_region(&region(job), &CELLS).ok().map(|mesh| sizes_of(&mesh))
 }
 
@@ -62,7 +62,7 @@ struct Footprint {
 
 impl Footprint {
     fn of(job: &Job) -> Footprint {
-        let (xs, ys) = paper::part(job);
+        let (xs, ys) = rules::part(job);
         let once = dedup_ring(&super::points(xs, ys));
         let way = match () {
             _ if ring_is_rectilinear(&once) => Rectilinear,
@@ -77,7 +77,7 @@ impl Footprint {
         !matches!(self.way, Clipped)
     }
 
-    /// The Rust's mesh, or document 01's refusal where it is the scanline's; those that the Rust has too must be the same.
+    /// The Rust's mesh, or the scanline's refusal by the rules; where the Rust has it too, the two must be the same.
     fn held(&self, rust: Result<Mesh, Fault>, scanned: Option<&Scanned>) -> Result<Mesh, Fault> {
         let Some(scanned) = scanned else {
             return Ok(rust.expect("a ring that is clipped has a mesh"));

@@ -4,7 +4,7 @@ use crate::axes;
 use crate::case::List;
 use crate::meshes::{lists, Call, Job, Solid};
 use crate::numbers;
-use crate::paper::meshes::boxes::{self as paper, sizes};
+use crate::rules::meshes::boxes::{self as rules, sizes};
 use crate::random::Random;
 use crate::rings;
 use crate::solids;
@@ -24,7 +24,7 @@ pub fn job(call: Call, seed: u64, number: u64) -> Job {
     let [min_y, max_y] = axes::ends(r, across, ny);
     let (mut bounds, mut cells) = ([min_x, min_y, max_x, max_y, z_bottom, z_top], [across, up]);
     let mut job = Job { material: r.below(769) as u32, region: lists::region(r), counts: lists::counts(r), ..job_of(call, bounds, cells) };
-    let nodes: f64 = paper::axes(&bounds, &cells).iter().map(|n| n + 1.0).product();
+    let nodes: f64 = rules::axes(&bounds, &cells).iter().map(|n| n + 1.0).product();
     let most = if large { LARGE } else { NODES };
     job.lengths = lists::room(r, job.counts, (nodes <= most).then(|| sizes(&bounds, &cells)));
     if r.one_in(1500) && nodes <= NODES {

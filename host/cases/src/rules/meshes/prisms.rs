@@ -2,7 +2,7 @@
 use super::{hold, lists};
 use crate::meshes::Fault::{self, *};
 use crate::meshes::{Job, Solid};
-use crate::paper::{admitted, POINTS_MOST, RING_MOST};
+use crate::rules::{admitted, POINTS_MOST, RING_MOST};
 
 /// "Meshing a prism region: 16, 15, 2, 1, 8"; points outside the part and cell sizes are not looked at.
 pub fn judged(job: &Job) -> Result<(), Fault> {

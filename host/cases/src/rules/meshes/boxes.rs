@@ -2,8 +2,8 @@
 use super::{hold, lists, room};
 use crate::meshes::Fault::{self, *};
 use crate::meshes::Job;
-use crate::paper::admitted;
-use crate::paper::cells::{cells, CELLS_MOST};
+use crate::rules::admitted;
+use crate::rules::cells::{cells, CELLS_MOST};
 
 /// "Meshing a box region: 16, 15 for counts or material; 1 for bounds; 5; 1 for cell sizes; 6; 7; 12."
 pub fn judged(job: &Job, bounds: &[f64; 6]) -> Result<(), Fault> {

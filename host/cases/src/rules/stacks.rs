@@ -1,5 +1,5 @@
-//! Document 01's "Stacking", transcribed: the refusals in their order, then each polygon's outcome and region. Whether a ring is a box, and its
-//! bounds, are the Rust's.
+//! The rules of stacking, transcribed: the refusals in their order, then each polygon's outcome and region. Whether a ring is a box, and its bounds, are
+//! the Rust's.
 use super::blocks::{figures, figures_of, found, is_marker, name, rows, Row as BlockRow};
 use super::regions::REGIONS_MOST;
 use super::{ring, POINTS_MOST};

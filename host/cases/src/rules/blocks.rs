@@ -1,4 +1,4 @@
-//! Document 01's name blocks, transcribed: the bytes are read row by row, and a call on them is answered.
+//! The rules of name blocks, transcribed: the bytes are read row by row, and a call on them is answered.
 use crate::blocks::Kind;
 use crate::call::Call::*;
 use crate::case::{Answer, Case, BEFORE, COPY};

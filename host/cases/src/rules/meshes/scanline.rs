@@ -1,6 +1,6 @@
 //! The scanline of a ring that has been cleaned once, up to the crossings of its bands' middles.
 use crate::meshes::Fault::{self, *};
-use crate::paper::SIZE_MOST;
+use crate::rules::SIZE_MOST;
 
 type Point = (f64, f64);
 

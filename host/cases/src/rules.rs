@@ -1,4 +1,5 @@
-//! Document 01's refusals, transcribed: the first that applies, or 0. Calls on name blocks are answered whole.
+//! The rules, transcribed: of each call the first refusal that applies, or 0. Calls on name blocks are answered whole. A comment in quotation marks is the
+//! rule that the code below it follows; docs/PROOFS.md goes through all of them.
 pub mod blocks;
 pub mod cells;
 pub mod meshes;
