@@ -130,8 +130,18 @@ module _ (a t E k q : ℕ) (at : k + E ≡ t + 1076) (K : k ≤ 2000) (lo : 2 ^ 
       far : (k : ℕ) → k ≤ 2000 → 53 + k < 1074 + 1024
       far k h = omega arith
 
-  round_at : HasValue (round binary64 false a (2 ^ E)) false (q * 2 ^ k) (2 ^ 1074)
-  round_at = subst (λ (x : Float). HasValue x false (q * 2 ^ k) (2 ^ 1074)) (sym rounds_to) (units_val binary64 false q k within)
+  units_at : HasValue (round binary64 false a (2 ^ E)) false (q * 2 ^ k) (2 ^ 1074)
+  units_at = subst (λ (x : Float). HasValue x false (q * 2 ^ k) (2 ^ 1074)) (sym rounds_to) (units_val binary64 false q k within)
+
+-- the definition's root is rounded at 601 places
+pub round_at : (a t q : ℕ) → 2 ^ (54 + t) ≤ a → a < 2 ^ (55 + t) → t ≤ 1100 → closest a (2 ^ t * 4) ≡ q → q ≤ 2 ^ 53 → HasValue (round binary64 false a (2 ^ 601)) false (q * 2 ^ (t + 475)) (2 ^ 1074)
+round_at a t q lo hi far near small = units_at a t 601 (t + 475) q (places t) (within_far t far) lo hi near small
+  where
+    places : (t : ℕ) → t + 475 + 601 ≡ t + 1076
+    places t = omega arith
+
+    within_far : (t : ℕ) → t ≤ 1100 → t + 475 ≤ 2000
+    within_far t h = omega arith
 
 -- ---- the rounded root
 pub four_pow : (t : ℕ) → 4 ^ t ≡ 2 ^ t * 2 ^ t
@@ -208,7 +218,7 @@ module _ (N M t R r s : ℕ) (W : N ≡ M * 2 ^ 54 * (2 ^ t * 2 ^ t)) (lo : 2 ^ 
 
   -- rounded at E places: the value does not depend on how many places the root is taken to
   longer_value : (E k : ℕ) → k + E ≡ t + 1076 → k ≤ 2000 → HasValue (round binary64 false (r * 2 + s) (2 ^ E)) false ((R / 2 + R % 2) * 2 ^ k) (2 ^ 1074)
-  longer_value E k at K = round_at (r * 2 + s) t E k (R / 2 + R % 2) at K a_lo a_hi near (half_hi M R lo hi is)
+  longer_value E k at K = units_at (r * 2 + s) t E k (R / 2 + R % 2) at K a_lo a_hi near (half_hi M R lo hi is)
 
 -- a last digit that is 0 only where a ≡ b
 last_le : (a b : ℕ) → cond (eqb a b) 0 1 ≤ 1

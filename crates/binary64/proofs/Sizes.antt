@@ -2,10 +2,10 @@
 use Rattle.std.proofs.Common.{◌≡◌, ℕ, zero, suc, ◌+◌, ◌*◌, ◌^◌, ◌<◌, ◌≤◌, Bool, true, false, not, ◌&&◌, ◌||◌, T, eqb, ltb, leb, ℤ, pos, sym, refl, ap, ◌∙◌, subst, inl, inr, le_of_eq, le_of_lt, lt_irrefl, zero-lt-suc, eq-zero-or-pos, eq-or-lt_of_le, mul-pos, one-mul, zero-mul, mul-one, arith, le→leb, eqb→eq, ltb→lt, lt→ltb, leb→le, ltb-false, ltb-true}
 use mathlib.Core.Bool.{beq}
 use lib.Dec.{eqb_refl}
-use lib.Ieee.{Float, nan, inf, fin, binary64, up, down, neg, lt, le, eq, below, level, of_bits}
+use lib.Ieee.{Float, nan, inf, fin, binary64, up, down, neg, lt, le, eq, below, level, of_bits, fits}
 use lib.Ieee.Fits.{up_pos, and_l, and_r}
 use Rattle.std.specs.Float.{float_with_sign}
-use Rattle.binary64.proofs.Values.{same_test}
+use Rattle.binary64.proofs.Values.{same_test, zero_exponent}
 use Rattle.binary64.specs.Numbers.{at_most, abs}
 
 -- ---- tests
@@ -156,6 +156,35 @@ zero_digits s m e h =
     first : (m u : ℕ) → 0 < u → m * u * 1 ≡ 0 → m ≡ 0
     first zero u U h = refl
     first (suc m) u U h = absurd (lt_irrefl 0 (subst (λ (z : ℕ). 0 < z) (sym (mul-one (suc m * u)) ∙ h) (mul-pos (zero-lt-suc m) U)))
+
+-- below zero, or a zero
+pub minus_either : (m : ℕ) (e : ℤ) → lt (fin true m e) (fin false 0 (pos 0)) ≡ false → eq (fin true m e) (fin false 0 (pos 0)) ≡ false → ⊥
+minus_either m e h k = subst T (sym (is_zero true m e (minus_not_above m e h)) ∙ k) tt
+
+-- ---- the size of x: by whether x is below zero, or is a zero
+pub abs_below : (x : Float) → lt x (fin false 0 (pos 0)) ≡ true → abs x ≡ neg x
+unfolding abs neg lt
+abs_below nan h = refl
+abs_below (inf true) h = refl
+abs_below (inf false) h = absurd (subst T (sym h) tt)
+abs_below (fin true m e) h = refl
+abs_below (fin false m e) h = absurd (plus_not_below m e h)
+
+pub abs_zero : (x : Float) → T (fits binary64 x) → eq x (fin false 0 (pos 0)) ≡ true → abs x ≡ fin false 0 (pos 0)
+unfolding abs eq
+abs_zero nan t h = absurd (subst T (sym h) tt)
+abs_zero (inf s) t h = absurd (subst T (sym h) tt)
+abs_zero (fin s m e) t h =
+    let z = zero_digits s m e h in
+    ap (λ (k : ℕ). fin false k e) z ∙ ap (λ (g : ℤ). fin false 0 g) (zero_exponent s e (subst (λ (k : ℕ). T (fits binary64 (fin s k e))) z t))
+
+pub abs_above : (x : Float) → lt x (fin false 0 (pos 0)) ≡ false → eq x (fin false 0 (pos 0)) ≡ false → abs x ≡ x
+unfolding abs lt
+abs_above nan h k = refl
+abs_above (inf true) h k = absurd (subst T h tt)
+abs_above (inf false) h k = refl
+abs_above (fin false m e) h k = refl
+abs_above (fin true m e) h k = absurd (minus_either m e h k)
 
 -- ---- std's size of x
 pub abs_is : (x : Float) → float_with_sign false x ≡ abs x
