@@ -14,7 +14,9 @@ mod volume;
 
 pub use extrude::{extrude_box, extrude_polygon, extrude_ring};
 pub use polygons::{Polygons, SoundPolygons};
-pub use regions::{EvenRegions, LARGEST_MATERIAL, NO_POLYGON, Part, RegionLists, Regions, RowKind};
+pub use regions::{
+    EvenRegions, LARGEST_MATERIAL, NO_POLYGON, Part, RegionLists, Regions, RowKind, all_equal,
+};
 pub use rows::Columns;
 pub use stack::assemble_stack;
 pub use volume::total_volume;

@@ -32,11 +32,11 @@ module _ (xs ys : List Float) (b : Band) (es : List ℕ) (i : ℕ) where
       let first : i < length es = omega arith in
       rw (← g, e, add-one i, add-two i, drop-cons es i 0 first, drop-cons es (suc i) 0 second)
 
-  pair_flat : i + 1 < length es → {q : Quad} → q ≡ quad_of xs ys b (get_or es i 0) (get_or es (i + 1) 0) → is_flat q ≡ true
+  pub pair_flat : i + 1 < length es → {q : Quad} → q ≡ quad_of xs ys b (get_or es i 0) (get_or es (i + 1) 0) → is_flat q ≡ true
       → quads_between xs ys b (drop i es) ≡ quads_between xs ys b (drop (i + 2) es)
   pair_flat h e g = pair h e g
 
-  pair_kept : i + 1 < length es → {q : Quad} → q ≡ quad_of xs ys b (get_or es i 0) (get_or es (i + 1) 0) → is_flat q ≡ false
+  pub pair_kept : i + 1 < length es → {q : Quad} → q ≡ quad_of xs ys b (get_or es i 0) (get_or es (i + 1) 0) → is_flat q ≡ false
       → quads_between xs ys b (drop i es) ≡ (q ∷ []) ++ quads_between xs ys b (drop (i + 2) es)
   pair_kept h e g = pair h e g
 

@@ -118,11 +118,11 @@ module _ (xs ys : List Float) where
   last_place : (i : ℕ) → 0 < i → last_of (elems i (λ k. k)) ≡ i - 1
   last_place i h = rw (elems_length (λ k. k) i) (elems_at (λ k. k) 0 i (i - 1) (omega arith))
 
-  clean_start : kept_of xs ys 1 ≡ elems 1 (λ k. k)
+  pub clean_start : kept_of xs ys 1 ≡ elems 1 (λ k. k)
   unfolding fold_below keep runs elems
   clean_start = refl
 
-  clean_more : (i : ℕ) → 0 < i → kept_of xs ys i ≡ elems i (λ k. k) → is_close (point_at xs ys (i - 1)) (point_at xs ys i) ≡ false → kept_of xs ys (i + 1) ≡ elems (i + 1) (λ k. k)
+  pub clean_more : (i : ℕ) → 0 < i → kept_of xs ys i ≡ elems i (λ k. k) → is_close (point_at xs ys (i - 1)) (point_at xs ys i) ≡ false → kept_of xs ys (i + 1) ≡ elems (i + 1) (λ k. k)
   clean_more i h e f =
       let far : is_close (point_at xs ys (last_of (elems i (λ k. k)))) (point_at xs ys i) ≡ false =
       ap (λ (k : ℕ). is_close (point_at xs ys k) (point_at xs ys i)) (last_place i h) ∙ f in
@@ -289,11 +289,11 @@ module _ (xs ys : List Float) where
     dedup_refused w h e = rw (eq-eqb m n h, ← e)
 
     module _ (h : m ≡ n) (fine : given tt ≡ ring_fault xs ys) where
-      dedup_short : m < length (kept xs ys) → dedup_ring xs ys m n ≡ refused 12
+      pub dedup_short : m < length (kept xs ys) → dedup_ring xs ys m n ≡ refused 12
       unfolding dedup_ring
       dedup_short l = rw (eq-eqb m n h, ← fine, lt-leb (length (kept xs ys)) m l)
 
-      dedup_fits : length (kept xs ys) ≤ m → dedup_ring xs ys m n ≡ given (kept xs ys)
+      pub dedup_fits : length (kept xs ys) ≤ m → dedup_ring xs ys m n ≡ given (kept xs ys)
       unfolding dedup_ring
       dedup_fits l = rw (eq-eqb m n h, ← fine, le-leb (length (kept xs ys)) m l)
 

@@ -4,7 +4,7 @@ use mathlib.Core.Path.{◌≡◌, refl, sym, ap, ◌∙◌, subst}
 use mathlib.Core.Bool.{Bool, true, false, ◌&&◌, cond}
 use mathlib.Core.List.{List}
 use mathlib.Core.Logic.{◌⊎◌, ⊎_elim}
-use Prim.Native.Nat.{ℕ, zero, suc, ◌+◌, ◌-◌, ◌<◌, ◌≤◌}
+use Prim.Native.Nat.{ℕ, zero, suc, ◌+◌, ◌<◌, ◌≤◌}
 use native.Mathlib.Nat.{add-zero, add-suc, eq-or-lt_of_le, le_of_suc-le-suc}
 use native.Mathlib.Omega.{arith}
 use lib.ListN.{length}
@@ -13,15 +13,16 @@ use lib.Ieee.{Float, inf, fin, neg, lt, le}
 use Rattle.lists.specs.Answer.{Answer, refused, given, unless}
 use Rattle.lists.specs.Lists.{all_below, fold_below}
 use Rattle.lists.proofs.Answers.{passed}
-use Rattle.lists.proofs.Scans.{all_at, all_from}
+use Rattle.lists.proofs.Scans.{both as both_of, all_at, all_from}
 use Rattle.binary64.specs.Numbers.{at, at_most}
 use Rattle.binary64.proofs.Sizes.{at_most_is}
 use Rattle.binary64.proofs.Order.{both, first, second, le_trans, le_not_lt, lt_le, not_lt_le, le_refl_left, le_refl_right, le_infinity, infinity_le}
 use Rattle.binary64.proofs.Differences.{within_high, within_low, within_both}
 use Rattle.openrdson_core.specs.Points.{point_at, point_in, points_in}
-use Rattle.openrdson_core.specs.Bounds.{lesser, greater, extend_point, empty_bbox, bounds_of}
+use Rattle.openrdson_core.specs.Bounds.{lesser, greater, extend_point, empty_bbox, bounds_of, FirstBounds}
 use Rattle.openrdson_core.specs.declared.points.Point.{Point}
 use Rattle.openrdson_core.specs.declared.bounds.Bbox.{Bbox}
+use Rattle.openrdson_core.proofs.SumLaws.{range_more}
 
 -- ---- the lower of two numbers, and the higher
 lesser_first : (x m : Float) → le x x ≡ true → le m m ≡ true → le (lesser x m) x ≡ true
@@ -163,21 +164,17 @@ extend_none b p h =
     let s = held b p h in
     rw (lesser_none p.x b.min_x s.left, lesser_none p.y b.min_y s.low, greater_none p.x b.max_x s.right, greater_none p.y b.max_y s.high) refl
 
+-- ---- points within the bounds of the first k
 module _ (xs ys : List Float) (k : ℕ) where
-  extends_none : (d : ℕ) → ((i : ℕ) → i < k + d → holds (box xs ys k) (point_at xs ys i) ≡ true) → box xs ys (k + d) ≡ box xs ys k
-  unfolding fold_below
-  extends_none zero each = ap (box xs ys) (add-zero k)
-  extends_none (suc d) each =
+  -- they extend these bounds no more
+  pub box_held : (d : ℕ) → all_below d (λ i. holds (box xs ys k) (point_at xs ys (k + i))) ≡ true → box xs ys (k + d) ≡ box xs ys k
+  unfolding fold_below all_below
+  box_held zero h = ap (box xs ys) (add-zero k)
+  box_held (suc d) h =
+      let parts = both_of (all_below d (λ i. holds (box xs ys k) (point_at xs ys (k + i)))) (holds (box xs ys k) (point_at xs ys (k + d))) h in
       ap (box xs ys) (add-suc k d)
-      ∙ ap (λ (b : Bbox). extend_point b (point_at xs ys (k + d))) (extends_none d (λ i h. each i (omega arith)))
-      ∙ extend_none (box xs ys k) (point_at xs ys (k + d)) (each (k + d) (omega arith))
-
-  -- the first k points are in range, and all n lie within their bounds: these are the bounds of all, which are in range too
-  pub all_held : (n : ℕ) → k ≤ n → all_below n (λ i. holds (box xs ys k) (point_at xs ys i)) ≡ true → box xs ys n ≡ box xs ys k
-  all_held n l h =
-      let e : k + (n - k) ≡ n = omega arith in
-      subst (λ (m : ℕ). box xs ys m ≡ box xs ys k) e
-      (extends_none (n - k) (λ i g. all_at (λ i. holds (box xs ys k) (point_at xs ys i)) n h i (omega arith)))
+      ∙ ap (λ (b : Bbox). extend_point b (point_at xs ys (k + d))) (box_held d parts.0)
+      ∙ extend_none (box xs ys k) (point_at xs ys (k + d)) parts.1
 
   abbrev limit : Float
   limit = fin false 1 (pos 20)
@@ -196,8 +193,10 @@ module _ (xs ys : List Float) (k : ℕ) where
   sides : (x : Float) → at_most 20 x ≡ true → (le (neg limit) x ≡ true) × (le x limit ≡ true)
   sides x h = (within_low x limit (sym (at_most_is 20 x) ∙ h), within_high x limit (sym (at_most_is 20 x) ∙ h))
 
-  pub held_in : (n : ℕ) → all_below k (λ i. point_in (point_at xs ys i)) ≡ true → all_below n (λ i. holds (box xs ys k) (point_at xs ys i)) ≡ true → all_below n (λ i. point_in (point_at xs ys i)) ≡ true
-  held_in n c h =
+  -- and are in range if the first k are
+  pub in_held : (d : ℕ) → all_below k (λ i. point_in (point_at xs ys i)) ≡ true → all_below d (λ i. holds (box xs ys k) (point_at xs ys (k + i))) ≡ true
+      → all_below (k + d) (λ i. point_in (point_at xs ys i)) ≡ true
+  in_held d c h =
       let in_k : (i : ℕ) → i < k → point_in (point_at xs ys i) ≡ true = all_at (λ i. point_in (point_at xs ys i)) k c in
       let x_between : Between (at xs) (neg limit) limit k = λ i g. sides (at xs i) (first (at_most 20 (at xs i)) (at_most 20 (at ys i)) (in_k i g)) in
       let y_between : Between (at ys) (neg limit) limit k = λ i g. sides (at ys i) (second (at_most 20 (at xs i)) (at_most 20 (at ys i)) (in_k i g)) in
@@ -205,12 +204,15 @@ module _ (xs ys : List Float) (k : ℕ) where
       let right = ap (λ (z : Float). le z limit) (max_x_is xs ys k) ∙ highest_under (at xs) (neg limit) limit number_high k x_between in
       let low = ap (le (neg limit)) (min_y_is xs ys k) ∙ lowest_above (at ys) (neg limit) limit number_low k y_between in
       let high = ap (λ (z : Float). le z limit) (max_y_is xs ys k) ∙ highest_under (at ys) (neg limit) limit number_high k y_between in
-      all_from (λ i. point_in (point_at xs ys i)) n
+      let each : all_below d (λ i. point_in (point_at xs ys (k + i))) ≡ true =
+      all_from (λ i. point_in (point_at xs ys (k + i))) d
       (λ i g.
-      let s = held (box xs ys k) (point_at xs ys i) (all_at (λ i. holds (box xs ys k) (point_at xs ys i)) n h i g) in
-      both (at_most 20 (at xs i)) (at_most 20 (at ys i))
-      (in_from (at xs i) (box xs ys k).min_x (box xs ys k).max_x left right s.left s.right)
-      (in_from (at ys i) (box xs ys k).min_y (box xs ys k).max_y low high s.low s.high))
+      let s = held (box xs ys k) (point_at xs ys (k + i)) (all_at (λ i. holds (box xs ys k) (point_at xs ys (k + i))) d h i g) in
+      both (at_most 20 (at xs (k + i))) (at_most 20 (at ys (k + i)))
+      (in_from (at xs (k + i)) (box xs ys k).min_x (box xs ys k).max_x left right s.left s.right)
+      (in_from (at ys (k + i)) (box xs ys k).min_y (box xs ys k).max_y low high s.low s.high))
+      in
+      sym (range_more xs ys k d (sym c) (sym each))
 
 -- ---- what the first k points tell of all
 abbrev value : Answer Bbox → Bbox
@@ -237,12 +239,28 @@ module _ (xs ys : List Float) (k : ℕ) (some : k ≤ length xs) where
       go true h g = absurd (subst Given g tt)
       go false h g = f ∙ sym g ∙ ap (λ (b : Bool). unless b 1 (given (bounds_of xs ys))) (sym (fewer_in (points_in xs ys) refl h))
 
-  -- all lie within their bounds
-  pub first_bounds : {b : Bbox} → unless first_in 1 (given (box xs ys k)) ≡ given b → all_below (length xs) (λ i. holds b (point_at xs ys i)) ≡ true → given b ≡ unless (points_in xs ys) 1 (given (bounds_of xs ys))
-  unfolding bounds_of
-  first_bounds {b} e h =
-      let p = passed first_in 1 (given (box xs ys k)) e in
-      let is : box xs ys k ≡ b = ap value p.1 in
-      let inside = subst (λ (b : Bbox). all_below (length xs) (λ i. holds b (point_at xs ys i)) ≡ true) (sym is) h in
-      ap given (sym is ∙ sym (all_held xs ys k (length xs) some inside))
-      ∙ ap (λ (c : Bool). unless c 1 (given (box xs ys (length xs)))) (sym (held_in xs ys k (length xs) p.0 inside))
+-- ---- the bounds of the first points
+module _ (xs ys : List Float) where
+  -- of none
+  pub none_first : {b : Bbox} → b ≡ empty_bbox → FirstBounds xs ys 0 b
+  unfolding fold_below all_below
+  none_first e = record {
+    total = e;
+    in_range = refl;
+  }
+
+  -- of those that a call has answered
+  pub given_first : (k : ℕ) {b : Bbox} → unless (all_below k (λ i. point_in (point_at xs ys i))) 1 (given (box xs ys k)) ≡ given b → FirstBounds xs ys k b
+  given_first k e =
+      let p = passed (all_below k (λ i. point_in (point_at xs ys i))) 1 (given (box xs ys k)) e in record {
+        total = sym (ap value p.1);
+        in_range = p.0;
+      }
+
+  -- and of d more, which lie within them
+  pub held_first : (k d : ℕ) {b : Bbox} → FirstBounds xs ys k b → all_below d (λ i. holds b (point_at xs ys (k + i))) ≡ true → FirstBounds xs ys (k + d) b
+  held_first k d {b} f h =
+      let inside : all_below d (λ i. holds (box xs ys k) (point_at xs ys (k + i))) ≡ true = subst (λ (b : Bbox). all_below d (λ i. holds b (point_at xs ys (k + i))) ≡ true) f.total h in record {
+        total = f.total ∙ sym (box_held xs ys k d inside);
+        in_range = in_held xs ys k d f.in_range inside;
+      }

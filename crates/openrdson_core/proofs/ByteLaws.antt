@@ -1,14 +1,16 @@
 -- Names and little-endian numbers in lists of bytes: std's words for them are the definitions. Assumes nothing.
-use Rattle.std.proofs.Common.{◌≡◌, refl, sym, ap, ◌∙◌, ℕ, zero, suc, ◌+◌, ◌*◌, ◌<◌, ◌≤◌, Bool, true, false, ◌&&◌, List, [], ◌∷◌, eqb, leb, length, get_or, take, drop, arith, w16, w64, drop_of_length-le, get_or-drop, length-drop}
+use Rattle.std.proofs.Common.{◌≡◌, refl, sym, ap, ◌∙◌, ℕ, zero, suc, ◌+◌, ◌*◌, ◌<◌, ◌≤◌, Bool, true, false, not, ◌&&◌, ◌||◌, List, [], ◌∷◌, eqb, leb, length, get_or, take, drop, arith, w16, w64, drop_of_length-le, get_or-drop, length-drop}
 use Rattle.std.specs.Int.{from_le_bytes}
 use Rattle.std.proofs.Math.Dec.{eqb-zero-suc, eqb-suc-zero, eqb-suc-suc, leb-suc-zero, leb-suc-suc}
 use Rattle.std.proofs.Math.Seq.{drop-cons}
-use Rattle.std.proofs.lemmas.Bool.{le-leb}
+use Rattle.std.proofs.lemmas.Bool.{le-leb, eq-eqb}
 use Rattle.std.proofs.lemmas.Bool.Decides.{nat_tests}
+use Rattle.std.proofs.lemmas.Slice.Eq.{bytes_eq-Decides}
 use Rattle.std.specs.List as std
 use Rattle.std.specs.Cmp.Lexicographic.{pointwise}
 use Rattle.lists.specs.Lists.{part, all_below}
 use Rattle.openrdson_core.specs.Bytes.{byte_at, same, starts_with, little}
+use Rattle.openrdson_core.specs.Blocks.{head}
 
 and_assoc : (a b c : Bool) → ((a && b) && c) ≡ (a && (b && c))
 and_assoc true b c = refl
@@ -81,3 +83,24 @@ pub eight_bytes : (c : List ℕ) → length c ≡ 8 → from_le_bytes w64 (get_o
 eight_bytes c l =
     let end : little (drop 8 c) ≡ 0 = little_end c l in
     omega (arith, little_at c 0 (omega arith), little_at c 1 (omega arith), little_at c 2 (omega arith), little_at c 3 (omega arith), little_at c 4 (omega arith), little_at c 5 (omega arith), little_at c 6 (omega arith), little_at c 7 (omega arith))
+
+-- the first eight bytes
+little_start : (c : List ℕ) (i k : ℕ) → i < length c → little (take (suc k) (drop i c)) ≡ get_or c i 0 + 256 * little (take k (drop (suc i) c))
+unfolding little
+little_start c i k h = ap (λ (l : List ℕ). little (take (suc k) l)) (drop-cons c i 0 h)
+
+pub first_eight : (c : List ℕ) → 8 ≤ length c → from_le_bytes w64 (get_or c 0 0 ∷ get_or c 1 0 ∷ get_or c 2 0 ∷ get_or c 3 0 ∷ get_or c 4 0 ∷ get_or c 5 0 ∷ get_or c 6 0 ∷ get_or c 7 0 ∷ []) ≡ little (take 8 c)
+unfolding little
+first_eight c l = omega (arith, little_start c 0 7 (omega arith), little_start c 1 6 (omega arith), little_start c 2 5 (omega arith), little_start c 3 4 (omega arith), little_start c 4 3 (omega arith), little_start c 5 2 (omega arith), little_start c 6 1 (omega arith), little_start c 7 0 (omega arith))
+
+-- lists are the same where their heads are and they are: a test of the heads first changes nothing
+pub heads_first : (s t : List ℕ) → (not (eqb (head s) (head t)) || not (same s t)) ≡ not (same s t)
+heads_first s t = told (same s t) refl
+  where
+    told : (b : Bool) → same s t ≡ b → (not (eqb (head s) (head t)) || not b) ≡ not b
+    told false _ = or_true (not (eqb (head s) (head t)))
+      where
+        or_true : (a : Bool) → (a || true) ≡ true
+        or_true true = refl
+        or_true false = refl
+    told true h = ap (λ (e : Bool). not e || false) (eq-eqb (head s) (head t) (ap head ((bytes_eq-Decides s t).0 (same_is s t ∙ h))))

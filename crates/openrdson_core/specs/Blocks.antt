@@ -1,6 +1,6 @@
 -- Name blocks: a count of two bytes, little-endian, at most 256, then two parallel arrays of cells, the keys and the values. A block has exactly its counted
 -- length.
-use Rattle.std.specs.Prelude.{ℕ, ◌+◌, ◌*◌, ◌%◌, Bool, true, false, not, ◌&&◌, ◌||◌, List, eqb, leb, length, Option, option_map}
+use Rattle.std.specs.Prelude.{ℕ, ◌+◌, ◌*◌, ◌%◌, Bool, true, false, not, ◌&&◌, ◌||◌, List, eqb, leb, length, take, cond, Option, option_map}
 use Rattle.lists.specs.Lists.{part, all_below, first}
 use Rattle.openrdson_core.specs.Bytes.{byte_at, same, zeros, unpad, name_ok, little}
 use Rattle.openrdson_core.specs.declared.blocks.Cell.{Cell}
@@ -50,6 +50,10 @@ key_at k s i = part (2 + i * width_of k) (width_of k) s
 -- value i of a block with keys k and values v
 abbrev pub value_at : Cell → Cell → List ℕ → ℕ → List ℕ
 value_at k v s i = part (value_start k v s i) (width_of v) s
+
+-- the first eight bytes of a cell as a number, 0 where it has fewer
+unfoldable pub head : List ℕ → ℕ
+head c = cond (leb 8 (length c)) (little (take 8 c)) 0
 
 -- no two of the n cells are the same
 abbrev pub distinct : ℕ → (ℕ → List ℕ) → Bool

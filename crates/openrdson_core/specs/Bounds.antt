@@ -1,8 +1,8 @@
 -- Axis-aligned bounding boxes, as the Rust's `Bbox`: of equal values the first is kept.
-use Rattle.std.specs.Prelude.{Bool, true, false, ◌&&◌, ◌||◌, cond, List, length, Float}
+use Rattle.std.specs.Prelude.{◌≡◌, ℕ, Bool, true, false, ◌&&◌, ◌||◌, cond, List, length, Float}
 use Rattle.std.specs.Float.{inf}
 use Rattle.std.specs.Float.Ieee.{lt}
-use Rattle.lists.specs.Lists.{fold_below}
+use Rattle.lists.specs.Lists.{all_below, fold_below}
 use Rattle.binary64.specs.Numbers.{◌⊕◌, ◌⊖◌, ◌⊘◌}
 use Rattle.binary64.specs.Constants.{zero64, two64}
 use Rattle.openrdson_core.specs.Points.{the_point, point_at, point_in}
@@ -56,3 +56,8 @@ center b = the_point ((b.min_x ⊕ b.max_x) ⊘ two64) ((b.min_y ⊕ b.max_y) �
 -- the empty box, extended by the points in order
 unfoldable pub bounds_of : List Float → List Float → Bbox
 bounds_of xs ys = fold_below (length xs) (λ b i. extend_point b (point_at xs ys i)) empty_bbox
+
+-- the first n points are in range, and these are their bounds. Contracts of private functions cite this; no public one does.
+pub record FirstBounds (xs ys : List Float) (n : ℕ) (bounds : Bbox) : Type 0 where
+  pub total : bounds ≡ fold_below n (λ b i. extend_point b (point_at xs ys i)) empty_bbox
+  pub in_range : all_below n (λ i. point_in (point_at xs ys i)) ≡ true

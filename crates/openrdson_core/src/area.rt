@@ -161,16 +161,36 @@ fn sum_of_eights(ring: Ring) -> Partial
     done
 }
 
+// Eight edges a turn on from there, until a point is out of range. Where a coordinate is 2^20 in size, which is in range, the upper halves do not show it; here
+// each point is tested.
+fn sum_of_more(ring: Ring, first: Partial) -> Partial
+    requires inside { first.count ≤ length ring.xs.now }
+    requires summed { Summed ring.xs.now ring.ys.now first.count first.sum true }
+    ensures inside { result.count ≤ length ring.entry.xs.now }
+    ensures summed { Summed ring.entry.xs.now ring.entry.ys.now result.count result.sum true }
+{
+    let mut done = first;
+    for _turn in 0..(ring.xs.len() - first.count) / 8 {
+        let sum = add_eight(ring, done.count, done.sum);
+        if !are_in_range(ring, done.count, 8) {
+            return done;
+        }
+        let count = done.count + 8;
+        done = Partial { sum, count };
+    }
+    done
+}
+
 // The signed area, or 1.
 fn signed_area_of_points(ring: Ring) -> Result<f64, Refusal>
     ensures { answer result ≡ unless (points_in ring.entry.xs.now ring.entry.ys.now) 1 (given (signed_area ring.entry.xs.now ring.entry.ys.now)) }
 {
     let n = ring.xs.len();
-    let first = sum_of_eights(ring);
-    let sum = add_rest(ring, first.count, first.sum);
+    let first = sum_of_more(ring, sum_of_eights(ring));
     if !are_in_range(ring, first.count, n - first.count) {
         return Err(Refusal::NumberOutOfRange);
     }
+    let sum = add_rest(ring, first.count, first.sum);
     if n < 3 {
         return Ok(0.0);
     }

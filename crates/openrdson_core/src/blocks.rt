@@ -6,7 +6,7 @@ ghost use Rattle.openrdson_core.specs.Bytes.{same, zeros, unpad};
 ghost use Rattle.openrdson_core.specs.Answers.{answer};
 ghost use Rattle.openrdson_core.specs.Blocks as spec;
 
-use crate::bytes::{is_name, is_zero, name_length};
+use crate::bytes::{is_name, is_same, is_zero, name_length};
 use crate::refusals::Refusal;
 
 // A cell of a block's array: a layer number of two bytes, a name, a stack entry's figures, a via's two layers.
@@ -49,16 +49,16 @@ fn is_name_or_none(c: &[u8]) -> bool
     is_zero(c) || is_name(c)
 }
 
-// Whether a cell is as its kind must be.
+// Whether a cell is as its kind must be. A name is handed on as 32 bytes, a length that the compiler knows, so that its loops are unrolled.
 fn is_cell(c: &[u8], cell: Cell) -> bool
     requires { length c.now ≡ spec.width_of cell }
     ensures { result ≡ spec.cell_ok cell c.now }
 {
     match cell {
         Cell::Number => true,
-        Cell::Name => is_name(c),
+        Cell::Name => is_name(&c[..32]),
         Cell::Figures => is_stack_entry(c),
-        Cell::Ends => is_name_or_none(&c[..32]) && is_name_or_none(&c[32..]),
+        Cell::Ends => is_name_or_none(&c[..32]) && is_name_or_none(&c[32..64]),
     }
 }
 
@@ -74,24 +74,43 @@ fn all_cells(s: &[u8], from: usize, n: usize, cell: Cell) -> bool
     })
 }
 
-// Whether cell n is none of the n cells of w bytes before it, which start at place 2.
+// A cell's first eight bytes as a number, 0 where it has fewer: cells whose heads differ are not the same.
+#[tactic(auto, using(crate::proofs::ByteLaws::first_eight), unfolding(crate::specs::Blocks::head))]
+fn head(c: &[u8]) -> u64
+    ensures { result ≡ spec.head c.now }
+{
+    if c.len() < 8 {
+        return 0;
+    }
+    u64::from_le_bytes([c[0], c[1], c[2], c[3], c[4], c[5], c[6], c[7]])
+}
+
+// Whether cell n is none of the n cells of w bytes before it, which start at place 2. The heads are compared first: most names differ there, and to compare
+// whole cells is a call.
 fn is_new(s: &[u8], w: usize, n: usize) -> bool
     requires { 2 + n * w + w ≤ length s.now }
     ensures { result ≡ all_below n (λ j. not (same (part (2 + j * w) w s.now) (part (2 + n * w) w s.now))) }
 {
     let cell = &s[2 + n * w..2 + n * w + w];
+    let first = head(cell);
     (0..n).all(|j| {
         let at = 2 + j * w;
-        &s[at..at + w] != cell
+        let other = &s[at..at + w];
+        head(other) != first || other != cell
     })
 }
 
-// Whether no two of the n cells of w bytes that start at place 2 are the same.
+// Whether no two of the n cells of w bytes that start at place 2 are the same. The width of layer numbers is handed on as a constant: two bytes are then
+// compared where they stand.
 fn are_distinct(s: &[u8], w: usize, n: usize) -> bool
     requires { 2 + n * w ≤ length s.now }
     ensures { result ≡ spec.distinct n (λ i. part (2 + i * w) w s.now) }
 {
-    (0..n).all(|i| is_new(s, w, i))
+    (0..n).all(|i| if w == 2 {
+        is_new(s, 2, i)
+    } else {
+        is_new(s, w, i)
+    })
 }
 
 // Whether s is a block of these keys and values, `once` where no key may stand twice: a flag, since a closure for one test more is no plainer.
@@ -134,11 +153,10 @@ pub fn rows(s: &[u8]) -> usize
 }
 
 // Whether the cell c, its padding left out, is the name.
-#[tactic(auto, using(crate::proofs::ByteLaws::same_is))]
 fn is_named(c: &[u8], name: &[u8]) -> bool
     ensures { result ≡ same (unpad c.now) name.now }
 {
-    &c[..name_length(c)] == name
+    is_same(&c[..name_length(c)], name)
 }
 
 // The name keys of a block, as many as it counts.

@@ -2,6 +2,14 @@
 ghost use Rattle.std.specs.Prelude.{◌≡◌, ◌≤◌, length};
 ghost use Rattle.openrdson_core.specs.Bytes as spec;
 
+// Whether a and b hold the same bytes.
+#[tactic(auto, using(crate::proofs::ByteLaws::same_is))]
+pub fn is_same(a: &[u8], b: &[u8]) -> bool
+    ensures { result ≡ spec.same a.now b.now }
+{
+    a == b
+}
+
 // Whether every byte is zero.
 pub fn is_zero(c: &[u8]) -> bool
     ensures { result ≡ spec.zeros c.now }
@@ -26,9 +34,10 @@ pub fn is_name(c: &[u8]) -> bool
     n > 0 && is_zero(&c[n..])
 }
 
-// Whether p stands somewhere in s.
-pub fn contains(s: &[u8], p: &[u8]) -> bool
+// Whether p stands somewhere in s. The length of p is a constant: the comparison at each place is then no call.
+pub fn contains<const N: usize>(s: &[u8], p: &[u8; N]) -> bool
     ensures { result ≡ spec.contains s.now p.now }
 {
-    (0..s.len()).any(|i| s[i..].starts_with(p))
+    let pattern = p.as_slice();
+    (0..s.len()).any(|i| s[i..].starts_with(pattern))
 }

@@ -18,12 +18,14 @@ mod solids;
 mod tech;
 
 pub use area::{cross_of, is_ccw, polygon_area, polygon_signed_area};
+pub use blocks::rows;
 pub use bounds::Bbox;
+pub use bytes::is_same;
 pub use layout::{LayerNames, is_marker, layer_name};
 pub use maps::{LayerMap, NamePlace, Span, look_up, name_place, physical_name};
 pub use mesh::{
     Counts, Element, ElementType, Mesh, MeshLists, NodeNumber, Point3, UNUSED, UnknownKind,
-    counts_within, has_room, lists_parallel, used_places,
+    counts_within, has_room, lists_parallel, node_count_of, used_places,
 };
 pub use points::{Point, Points, ring_check, ring_size};
 pub use rectangle::is_axis_aligned_rectangle;
@@ -31,6 +33,6 @@ pub use refusals::Refusal;
 pub use ring::{Ring, SoundRing, next_place};
 pub use solids::{Footprint, Heights, Material, PolygonNumber, Solid, SolidRegion};
 pub use tech::{
-    Blocks, Figures, SoundBlocks, Stack, ViaLayers, Vias, check_blocks, material_number,
-    stack_layer, via_layers,
+    Blocks, Figures, SoundBlocks, Stack, ViaLayers, Vias, check_blocks, find_material,
+    material_number, stack_layer, via_layers,
 };

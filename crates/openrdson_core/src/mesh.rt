@@ -207,8 +207,16 @@ pub fn has_room(n: usize, at: usize, len: usize) -> bool
     n <= 1048576 && at <= 1048576 - n && at + n <= len
 }
 
-// How many of its places an element of a kind uses; none where there is no such kind.
-pub fn used_places(kind: u8) -> Option<usize>
+// How many of its places an element of a kind uses, and 0 where there is no such kind.
+pub fn used_places(kind: u8) -> usize
+    ensures used { result ≡ spec.used_places (spec.kind_of kind) }
+    ensures within { result ≤ 8 }
+{
+    node_count_of(kind).unwrap_or(0)
+}
+
+// How many nodes an element of a kind has; none where there is no such kind.
+pub fn node_count_of(kind: u8) -> Option<usize>
     ensures used { result ≡ option_map spec.node_count (spec.kind_of kind) }
     ensures within { IfSome result (λ n. n ≤ 8) }
 {

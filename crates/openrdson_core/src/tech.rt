@@ -205,9 +205,9 @@ pub fn via_layers(s: &[u8], name: &[u8]) -> Result<Option<ViaLayers>, Refusal>
     Ok(vias.find(name))
 }
 
-// The material number of a name, 0 where it has none.
+// The material number of a name in three blocks that have been checked, 0 where it has none.
 #[tactic(auto, using(crate::proofs::BlockLaws::block_counts, crate::proofs::BlockLaws::row_found), unfolding(crate::specs::Tech::material_of))]
-fn material_of(conductors: Stack, diffusions: Stack, vias: Vias, name: &[u8]) -> Material
+pub fn find_material(conductors: Stack, diffusions: Stack, vias: Vias, name: &[u8]) -> Material
     ensures { result.0 ≡ spec.material_of conductors.entry.bytes.now diffusions.entry.bytes.now vias.entry.bytes.now name.now }
 {
     if let Some(i) = conductors.find_row(name) {
@@ -235,7 +235,7 @@ pub fn material_number(
     let conductors = Stack::checked(conductors)?;
     let diffusions = Stack::checked(diffusions)?;
     let vias = Vias::checked(vias)?;
-    Ok(material_of(conductors, diffusions, vias, name))
+    Ok(find_material(conductors, diffusions, vias, name))
 }
 
 // The six name blocks, as they are lent.
@@ -294,7 +294,7 @@ impl SoundBlocks<'_> {
     pub fn find_material(self, name: &[u8]) -> Material
         ensures { result.0 ≡ spec.material_of self.entry.conductors.bytes.now self.entry.diffusions.bytes.now self.entry.vias.bytes.now name.now }
     {
-        material_of(self.conductors, self.diffusions, self.vias, name)
+        find_material(self.conductors, self.diffusions, self.vias, name)
     }
 }
 

@@ -4,7 +4,7 @@
 use check::expect;
 use openrdson_core::{
     Counts, ElementType, Mesh, MeshLists, Point3, UNUSED, UnknownKind, counts_within, has_room,
-    lists_parallel, used_places,
+    lists_parallel, node_count_of, used_places,
 };
 
 fn kinds() {
@@ -65,8 +65,10 @@ fn elements() {
     expect(!pyramid.is_sound());
     expect(pyramid.is_inside(5));
     expect(!pyramid.is_ok(5));
-    expect(used_places(3) == Some(5));
-    expect(used_places(4) == None);
+    expect(node_count_of(3) == Some(5));
+    expect(node_count_of(4) == None);
+    expect(used_places(3) == 5);
+    expect(used_places(4) == 0);
 }
 
 fn written() {

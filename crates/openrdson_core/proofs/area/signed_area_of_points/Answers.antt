@@ -9,7 +9,7 @@ pub returns-then-not-are_in_range : goal.returns-then-not-are_in_range
 returns-then-not-are_in_range c =
     let xs = c.args.ring.xs.now in
     let ys = c.args.ring.ys.now in
-    let s = c.sum_of_eights-first in
+    let s = c.sum_of_more-first in
     let r : c.are_in_range.result ≡ points_in xs ys = range_rest xs ys s.result.count s.ensures.inside s.ensures.summed.noted c.are_in_range.ensures in
     rw (sym r ∙ c.if-not-are_in_range.true)
 
@@ -18,7 +18,7 @@ unfolding signed_area
 returns-then-n-lt3 c =
     let xs = c.args.ring.xs.now in
     let ys = c.args.ring.ys.now in
-    let s = c.sum_of_eights-first in
+    let s = c.sum_of_more-first in
     let r : c.are_in_range.result ≡ points_in xs ys = range_rest xs ys s.result.count s.ensures.inside s.ensures.summed.noted c.are_in_range.ensures in
     rw (sym r ∙ c.if-not-are_in_range.false, lt-ltb (length xs) 3 c.if-n-lt3.true)
 
@@ -27,6 +27,6 @@ unfolding signed_area
 returns c =
     let xs = c.args.ring.xs.now in
     let ys = c.args.ring.ys.now in
-    let s = c.sum_of_eights-first in
+    let s = c.sum_of_more-first in
     let r : c.are_in_range.result ≡ points_in xs ys = range_rest xs ys s.result.count s.ensures.inside s.ensures.summed.noted c.are_in_range.ensures in
     rw (sym r ∙ c.if-not-are_in_range.false, le-ltb (length xs) 3 c.if-n-lt3.false, c.add_rest-sum.ensures)

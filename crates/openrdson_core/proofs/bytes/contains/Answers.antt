@@ -9,7 +9,7 @@ use Rattle.openrdson_core.proofs.bytes.contains.Goals as goal
 
 pub returns : goal.returns
 unfolding spec.contains
-returns c =
+returns g c =
     let s = c.args.s.now in
     let test : ℕ → Bool = λ k. spec.starts_with (drop k s) c.args.p.now in
     any_is test (length s) c.any.result
