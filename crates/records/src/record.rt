@@ -43,14 +43,21 @@ impl<'a> Record<'a> {
         ensures len { array_vec_len result ≡ min n N }
         ensures items { result.items ≡ map (λ k. T.of_word (spec.word (spec.after self.entry.0.now i) k)) (range_with_len 0 (min n N)) }
     {
-        let rest = self.after(i);
-        let mut entries = [T::default(); N];
-        for k in 0..n.min(N) {
-            entries[k] = rest.at(k);
-        }
-        let mut list = ArrayVec::from(entries);
-        list.truncate(n);
+        let mut list = ArrayVec::new();
+        self.list_into(i, n, &mut list);
         list
+    }
+
+    // The same in a list that is lent: a large one that is returned would be copied whole, however few its entries are.
+    pub fn list_into<T: Entry, const N: usize>(self, i: usize, n: usize, list: &mut ArrayVec<T, N>)
+        ensures len { array_vec_len list.new ≡ min n N }
+        ensures items { list.new.items ≡ map (λ k. T.of_word (spec.word (spec.after self.entry.0.now i) k)) (range_with_len 0 (min n N)) }
+    {
+        let rest = self.after(i);
+        list.clear();
+        for k in 0..n.min(N) {
+            list.push(rest.at(k));
+        }
     }
 
     // The word at place i, or `most` where it is above.

@@ -1,4 +1,7 @@
 // The calls, and a record of each: the call's number, the lengths of the two lists, eight parameters, the lists, and the answer.
+ghost use Rattle.std.specs.Prelude.{◌≤◌};
+
+use arrayvec::ArrayVec;
 use openrdson_core::{Bbox, Solid};
 use records::{Answer, Record};
 use std::fmt;
@@ -107,7 +110,10 @@ impl records::Call<13, 16512> for Call {
 
     const HEAD: usize = 24;
 
-    fn size_of(record: Record<'_>) -> usize {
+    fn size_of(record: Record<'_>) -> usize
+        ensures low { 128 ≤ result }
+        ensures high { result ≤ 16512 }
+    {
         (record.length(1) + record.length(2) + 16) * 8
     }
 
@@ -121,8 +127,10 @@ impl records::Call<13, 16512> for Call {
     fn is_answered(self, record: Record<'_>) -> bool {
         let m = record.length(1);
         let n = record.length(2);
-        let xs = record.list::<f64, 1024>(11, m);
-        let ys = record.list::<f64, 1024>(11 + m, n);
+        let mut xs = ArrayVec::<f64, 1024>::new();
+        let mut ys = ArrayVec::<f64, 1024>::new();
+        record.list_into(11, m, &mut xs);
+        record.list_into(11 + m, n, &mut ys);
         self.answer(record, &xs, &ys)
             .is_recorded(record.after(11 + m + n))
     }

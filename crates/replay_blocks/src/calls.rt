@@ -115,7 +115,10 @@ impl records::Call<8, 8256> for Call {
 
     const HEAD: usize = 72;
 
-    fn size_of(record: Record<'_>) -> usize {
+    fn size_of(record: Record<'_>) -> usize
+        ensures low { 136 ≤ result }
+        ensures high { result ≤ 8256 }
+    {
         (record.after_parts(SLICES, COUNT) + 8) * 8
     }
 

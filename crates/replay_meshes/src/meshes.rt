@@ -1,5 +1,6 @@
 // Calls that append to a mesh: the nodes and elements that they add are the record's, and every other entry is as before.
 use crate::places::{POINTS, elements, elements_place, nodes, nodes_place};
+use arrayvec::ArrayVec;
 use meshing::{MeshConfig, mesh_box, mesh_prism};
 use openrdson_core::{Bbox, Counts, Heights, Material, MeshLists, Refusal};
 use records::{Answer, Lent, Record};
@@ -112,8 +113,10 @@ pub fn meshed_box(record: Record<'_>) -> (Result<Counts, Refusal>, Mesh) {
 // The record's prism, meshed.
 pub fn meshed_prism(record: Record<'_>) -> (Result<Counts, Refusal>, Mesh) {
     let m = record.length(1);
-    let xs = record.list::<f64, 1024>(POINTS, m);
-    let ys = record.list::<f64, 1024>(POINTS + m, record.length(2));
+    let mut xs = ArrayVec::<f64, 1024>::new();
+    let mut ys = ArrayVec::<f64, 1024>::new();
+    record.list_into(POINTS, m, &mut xs);
+    record.list_into(POINTS + m, record.length(2), &mut ys);
     let mut mesh = Mesh::BEFORE;
     let meshed = mesh_prism(
         &xs,

@@ -49,7 +49,8 @@ fn heights(record: Record<'_>, i: usize) -> Heights
 
 // Whether `extrude_polygon` answers what the record says.
 pub fn is_polygon_answered(record: Record<'_>) -> bool {
-    let points = Points::of(record);
+    let mut points = Points::new();
+    points.read(record);
     let built = extrude_polygon(
         &points.xs,
         &points.ys,

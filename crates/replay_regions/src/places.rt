@@ -1,6 +1,6 @@
 // Where the parts of a record stand. Its head is 36 words: the call's number (word 0); the lengths of its lists (1 to 6 the blocks, in bytes; 7 and 8 the
-// points; 9 to 12 the polygons; 13 to 24 the regions; 25 the outcomes); six floats (26 to 31), a material and a net (32, 33); the status, and a value, which
-// is 0 where the call refuses (34, 35). Then the lists stand in this order.
+// points; 9 to 12 the polygons; 13 to 24 the regions; 25 the outcomes); six floats (26 to 31), a material and a net (32, 33); the status and a value (34, 35).
+// Then the lists stand in this order.
 ghost use Rattle.std.specs.Prelude.{◌≤◌};
 
 use arrayvec::ArrayVec;
@@ -110,13 +110,19 @@ pub struct Points {
 }
 
 impl Points {
-    // The points of a record.
-    pub fn of(record: Record<'_>) -> Self {
+    // No points.
+    pub fn new() -> Self {
+        Points {
+            xs: ArrayVec::new(),
+            ys: ArrayVec::new(),
+        }
+    }
+
+    // Makes these the points of a record.
+    pub fn read(&mut self, record: Record<'_>) {
         let from = points_place(record);
         let m = record.length(7);
-        Points {
-            xs: record.list(from, m),
-            ys: record.list(from + m, record.length(8)),
-        }
+        record.list_into(from, m, &mut self.xs);
+        record.list_into(from + m, record.length(8), &mut self.ys);
     }
 }

@@ -65,7 +65,8 @@ impl Lists {
 
 // What the call on the record's blocks, polygons and points answers, and how it leaves the lists.
 fn stacked(record: Record<'_>) -> (Result<usize, Refusal>, Lists) {
-    let points = Points::of(record);
+    let mut points = Points::new();
+    points.read(record);
     let mut to = Lists::BEFORE;
     let mut regions = RegionLists {
         kinds: &mut to.kinds[..List::Kinds.length(record)],

@@ -6,7 +6,8 @@ use records::{Answer, Record};
 
 // The volume of the record's regions.
 fn volume(record: Record<'_>) -> Result<f64, Refusal> {
-    let points = Points::of(record);
+    let mut points = Points::new();
+    points.read(record);
     total_volume(
         Regions {
             kinds: &List::Kinds.entries(record),
@@ -27,7 +28,10 @@ fn volume(record: Record<'_>) -> Result<f64, Refusal> {
     )
 }
 
-// Whether the call answers what the record says.
+// Whether the call answers what the record says. Of a refusal only the status is recorded.
 pub fn is_total_answered(record: Record<'_>) -> bool {
-    Answer::from(volume(record)).is_recorded(answered(record))
+    match volume(record) {
+        Err(why) => record.word(34) == u64::from(u32::from(why)),
+        given => Answer::from(given).is_recorded(answered(record)),
+    }
 }

@@ -1,7 +1,0 @@
-use Rattle.std.proofs.Common.{◌≡◌, map, take}
-use Rattle.std.specs.List.{range_with_len}
-use Rattle.records.specs.Words as spec
-use Rattle.records.proofs.record.Record.list.Given as goal
-
-abbrev pub invariant-loop-k : goal.invariant-loop-k
-invariant-loop-k g l = take l.k l.entries ≡ map (λ j. g.T.Entry.of_word (spec.word l.rest.0.now j)) (range_with_len 0 l.k)
