@@ -93,7 +93,7 @@ pub first_eight : (c : List ℕ) → 8 ≤ length c → from_le_bytes w64 (get_o
 unfolding little
 first_eight c l = omega (arith, little_start c 0 7 (omega arith), little_start c 1 6 (omega arith), little_start c 2 5 (omega arith), little_start c 3 4 (omega arith), little_start c 4 3 (omega arith), little_start c 5 2 (omega arith), little_start c 6 1 (omega arith), little_start c 7 0 (omega arith))
 
--- lists are the same where their heads are and they are: a test of the heads first changes nothing
+-- where the heads differ, so do the lists: a test of the heads first changes nothing
 pub heads_first : (s t : List ℕ) → (not (eqb (head s) (head t)) || not (same s t)) ≡ not (same s t)
 heads_first s t = told (same s t) refl
   where

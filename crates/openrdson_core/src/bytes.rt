@@ -34,10 +34,16 @@ pub fn is_name(c: &[u8]) -> bool
     n > 0 && is_zero(&c[n..])
 }
 
-// Whether p stands somewhere in s. The length of p is a constant: the comparison at each place is then no call.
-pub fn contains<const N: usize>(s: &[u8], p: &[u8; N]) -> bool
+// Whether s starts with p. Byte by byte, since most places of a text differ in the first one.
+pub fn starts_with(s: &[u8], p: &[u8]) -> bool
+    ensures { result ≡ spec.starts_with s.now p.now }
+{
+    p.len() <= s.len() && (0..p.len()).all(|i| s[i] == p[i])
+}
+
+// Whether p stands somewhere in s.
+pub fn contains(s: &[u8], p: &[u8]) -> bool
     ensures { result ≡ spec.contains s.now p.now }
 {
-    let pattern = p.as_slice();
-    (0..s.len()).any(|i| s[i..].starts_with(pattern))
+    (0..s.len()).any(|i| starts_with(&s[i..], p))
 }
