@@ -53,7 +53,7 @@ prism_length base n (tri a b c) = refl
 abbrev pub prism_at : ℕ → ℕ → List ℕ → ℕ → List ℕ
 prism_at base n l k = prism_places base n (get_or (triples l) k (tri 0 0 0))
 
-prism_is : (base n : ℕ) (l : List ℕ) (i k : ℕ) → i ≡ k * 3 → i + 2 < length l → prism_places base n (tri (get_or l i 0) (get_or l (i + 1) 0) (get_or l (i + 2) 0)) ≡ prism_at base n l k
+pub prism_is : (base n : ℕ) (l : List ℕ) (i k : ℕ) → i ≡ k * 3 → i + 2 < length l → prism_places base n (tri (get_or l i 0) (get_or l (i + 1) 0) (get_or l (i + 2) 0)) ≡ prism_at base n l k
 prism_is base n l i k e h = ap (prism_places base n) (sym (triple_at l i k e h))
 
 -- The same of the corners read three at a time: their triangle k.

@@ -149,17 +149,13 @@ module _ (xs ys : List Float) where
       at (suc zero) l = refl
       at (suc (suc n)) l = absurd (omega arith)
 
-  -- no point is close to the one before it, by what `all` answers, and the last is not to the first
-  pub clean_end : (Not : Type 0) {apart close : Bool} {a b : Point} → 1 < length xs
-      → MatchBool apart (AllWithin (λ i. is_close (point_at xs ys (i - 1)) (point_at xs ys i) ≡ false) (range_with_len 1 (length xs - 1)) 0 (length (range_with_len 1 (length xs - 1)))) Not
-      → apart ≡ true → a ≡ point_at xs ys 0 → b ≡ point_at xs ys (length xs - 1) → close ≡ is_close a b → close ≡ false → kept xs ys ≡ elems (length xs) (λ k. k)
+  -- all points are kept, and the last is not close to the first
+  pub clean_end : {i : ℕ} {a b : Point} {close : Bool} → 1 < length xs → i ≡ length xs → kept_of xs ys i ≡ elems i (λ k. k) → a ≡ point_at xs ys 0 → b ≡ point_at xs ys (length xs - 1) → close ≡ is_close a b → close ≡ false
+      → kept xs ys ≡ elems (length xs) (λ k. k)
   unfolding kept drop_last
-  clean_end Not {apart} {close} {a} {b} more answered is p q t f =
+  clean_end {i} {a} {b} more h e p q t f =
       let n : ℕ = length xs in
-      let each = subst (λ r. MatchBool r (AllWithin (λ i. is_close (point_at xs ys (i - 1)) (point_at xs ys i) ≡ false) (range_with_len 1 (n - 1)) 0 (length (range_with_len 1 (n - 1)))) Not) is answered in
-      let place : (i : ℕ) → i < n - 1 → get_or (range_with_len 1 (n - 1)) i 0 ≡ 1 + i = λ i l. get_or-range_with_len 1 (n - 1) i 0 l in
-      let all : kept_of xs ys n ≡ elems n (λ k. k) =
-      clean_all n (λ i l h. subst (λ k. is_close (point_at xs ys (k - 1)) (point_at xs ys k) ≡ false) (omega (arith, place (i - 1) (omega arith))) (each (i - 1) 0 (omega arith) (omega (arith, length-range_with_len 1 (n - 1))))) (omega arith) in
+      let all : kept_of xs ys n ≡ elems n (λ k. k) = ap (kept_of xs ys) (sym h) ∙ e ∙ ap (λ (k : ℕ). elems k (λ k. k)) h in
       let far : is_close (point_at xs ys (get_or (elems n (λ k. k)) 0 0)) (point_at xs ys (last_of (elems n (λ k. k)))) ≡ false =
       ap (λ (k : ℕ). is_close (point_at xs ys k) (point_at xs ys (last_of (elems n (λ k. k))))) (elems_at (λ k. k) 0 n 0 (omega arith))
       ∙ ap (λ (k : ℕ). is_close (point_at xs ys 0) (point_at xs ys k)) (last_place n (omega arith))
@@ -168,6 +164,18 @@ module _ (xs ys : List Float) where
       ∙ sym t
       ∙ f in
       ap (drop_last xs ys) all ∙ rw (far, elems_length (λ k. k) n, lt-ltb 1 n more)
+
+  -- no point is close to the one before it, by what `all` answers, and the last is not to the first
+  pub clean_apart : (Not : Type 0) {apart close : Bool} {a b : Point} → 1 < length xs
+      → MatchBool apart (AllWithin (λ i. is_close (point_at xs ys (i - 1)) (point_at xs ys i) ≡ false) (range_with_len 1 (length xs - 1)) 0 (length (range_with_len 1 (length xs - 1)))) Not
+      → apart ≡ true → a ≡ point_at xs ys 0 → b ≡ point_at xs ys (length xs - 1) → close ≡ is_close a b → close ≡ false → kept xs ys ≡ elems (length xs) (λ k. k)
+  clean_apart Not {apart} {close} {a} {b} more answered is p q t f =
+      let n : ℕ = length xs in
+      let each = subst (λ r. MatchBool r (AllWithin (λ i. is_close (point_at xs ys (i - 1)) (point_at xs ys i) ≡ false) (range_with_len 1 (n - 1)) 0 (length (range_with_len 1 (n - 1)))) Not) is answered in
+      let place : (i : ℕ) → i < n - 1 → get_or (range_with_len 1 (n - 1)) i 0 ≡ 1 + i = λ i l. get_or-range_with_len 1 (n - 1) i 0 l in
+      let all : kept_of xs ys n ≡ elems n (λ k. k) =
+      clean_all n (λ i l h. subst (λ k. is_close (point_at xs ys (k - 1)) (point_at xs ys k) ≡ false) (omega (arith, place (i - 1) (omega arith))) (each (i - 1) 0 (omega arith) (omega (arith, length-range_with_len 1 (n - 1))))) (omega arith) in
+      clean_end more refl all p q t f
 
   -- ---- the loop
 

@@ -14,7 +14,7 @@ use Rattle.lists.specs.Lists.{fold_below, part}
 use Rattle.lists.proofs.Folds.{fold_start, fold_more, fold_end}
 use Rattle.lists.proofs.Scans.{both}
 use Rattle.binary64.specs.Constants.{zero64}
-use Rattle.binary64.specs.Numbers.{◌⊕◌, ◌⊖◌, ◌⊗◌, at, abs}
+use Rattle.binary64.specs.Numbers.{◌⊕◌, ◌⊖◌, at, abs}
 use Rattle.binary64.proofs.SquareRoots.{least_size, most_size, norm_upright}
 use Rattle.openrdson_core.specs.Bounds.{lesser, greater}
 use Rattle.openrdson_core.specs.Mesh.{kind_number, node_count, kind_of}

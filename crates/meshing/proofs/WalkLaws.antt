@@ -25,7 +25,7 @@ back_elems (suc n) =
     ∙ ap (λ (k : ℕ). k ∷ elems n (λ i. walk_at false (suc n) (suc i))) first
     ∙ sym (elems_front (walk_at false (suc n)) n)
 
-walk_elems : (d : Bool) (n : ℕ) → elems n (walk_at d n) ≡ walk d n
+pub walk_elems : (d : Bool) (n : ℕ) → elems n (walk_at d n) ≡ walk d n
 walk_elems true n = refl
 walk_elems false n = sym (back_elems n)
 

@@ -4,13 +4,13 @@ use mathlib.Core.Path.{◌≡◌, sym, ap, ◌∙◌}
 use mathlib.Core.Bool.{Bool, true, false, ◌&&◌, and-true}
 use mathlib.Core.List.{List}
 use mathlib.Core.Logic.{◌⊎◌, inl, inr, ⊎_elim}
-use Rattle.std.specs.Prelude.{Some}
+use Rattle.std.specs.Prelude.{Some, Result, Ok}
 use native.Mathlib.Omega.{arith}
 use lib.Dec.{leb}
 use lib.ListN.{length, take, get_or}
 use lib.Seq.{length-take-le, get_or-take}
 use lib.Ieee.{Float}
-use borrow.Author.Tests.{eq-eqb}
+use borrow.Author.Tests.{leb-true, eq-eqb}
 use Rattle.lists.specs.Answer.{refused, given, unless}
 use Rattle.lists.specs.Lists.{all_below, part}
 use Rattle.lists.proofs.Answers.{passed, refused_given, unless_refused}
@@ -20,6 +20,8 @@ use Rattle.binary64.specs.Numbers.{at, at_most}
 use Rattle.openrdson_core.specs.Mesh.{Mesh, parallel_lengths, parallel, known, kind_of, node_count, used_places, sound_element, inside_element, well_formed}
 use Rattle.openrdson_core.specs.declared.mesh.Counts.{Counts}
 use Rattle.openrdson_core.specs.declared.mesh.ElementType.{ElementType}
+use Rattle.openrdson_core.specs.Answers.{answer}
+use Rattle.openrdson_core.specs.declared.refusals.Refusal.{Refusal}
 use Rattle.openrdson_core.proofs.MeshLaws.{Lengths, equal_lengths, counts_in, place_below, used_most, well_formed_lem}
 use Rattle.meshing.specs.Whole.{nodes_in, elements_fault, mesh_fault, mesh_size, contents_fault, up_to}
 
@@ -105,6 +107,37 @@ module _ (m : Mesh) where
 
   pub fault_by_contents : {ok : Bool} → given tt ≡ mesh_size m → ok ≡ true → mesh_fault ok m ≡ contents_fault m
   fault_by_contents {ok} e f = fault_goes_on ok e ∙ ap (λ (b : Bool). unless b 1 (elements_fault (length m.xs) m.kinds m.places)) (ap (λ (b : Bool). nodes_in m.xs m.ys m.zs && b) f ∙ and-true (nodes_in m.xs m.ys m.zs))
+
+-- ---- what a mesh that nothing is against tells
+
+pub record Whole (m : Mesh) : Type 0 where
+  pub lists : Lengths (length m.xs) (length m.ys) (length m.zs) (length m.kinds) (length m.places) (length m.regions)
+  pub few_nodes : length m.xs ≤ 1048576
+  pub few_elements : length m.kinds ≤ 1048576
+  pub nodes : nodes_in m.xs m.ys m.zs ≡ true
+  pub sound : (e : ℕ) → e < length m.kinds → sound_at m.kinds m.places e ≡ true
+  pub inside : (e k : ℕ) → e < length m.kinds → k < used_places (kind_of (get_or m.kinds e 0)) → get_or (part (8 * e) 8 m.places) k 0 < length m.xs
+
+pub nothing_against : (ok : Bool) (m : Mesh) → mesh_fault ok m ≡ given tt → Whole m
+unfolding elements_fault mesh_fault
+nothing_against ok m e =
+    let one = passed (parallel m) 16 _ e in
+    let two = passed (few m) 2 _ one.1 in
+    let three = passed (nodes_in m.xs m.ys m.zs && ok) 1 _ two.1 in
+    let four = passed (all_below (length m.kinds) (sound_at m.kinds m.places)) 15 _ three.1 in
+    let counts = both (leb (length m.xs) 1048576) (leb (length m.kinds) 1048576) two.0 in
+    record {
+      lists = equal_lengths _ _ _ _ _ _ one.0;
+      few_nodes = leb-true _ _ counts.0;
+      few_elements = leb-true _ _ counts.1;
+      nodes = (both (nodes_in m.xs m.ys m.zs) ok three.0).0;
+      sound = all_at (sound_at m.kinds m.places) (length m.kinds) four.0;
+      inside = (fine_elements m.kinds m.places (length m.xs) (sym three.1)).inside;
+    }
+
+-- the same of a check that found nothing
+pub found_whole : (ok : Bool) (m : Mesh) {r : Result (Unit {0}) Refusal} → answer r ≡ mesh_fault ok m → r ≡ Ok tt → Whole m
+found_whole ok m e is = nothing_against ok m (sym e ∙ ap answer is)
 
 -- ---- the places that an element uses, as a list of their own
 

@@ -28,7 +28,7 @@ fn volume(record: Record<'_>) -> Result<f64, Refusal> {
     )
 }
 
-// Whether the call answers what the record says. Of a refusal only the status is recorded.
+// Whether the call answers what the record says. Of a refusal only the status is compared.
 pub fn is_total_answered(record: Record<'_>) -> bool {
     match volume(record) {
         Err(why) => record.word(34) == u64::from(u32::from(why)),

@@ -1,6 +1,4 @@
 // The lines that the program prints.
-ghost use Rattle.std.specs.Prelude.{◌<◌};
-
 use crate::layout::{Points, REGIONS};
 use crate::mesh::Mesh;
 use crate::outcome::Outcome;
@@ -59,7 +57,7 @@ pub fn print_outcomes(rt: &impl Print, regions: &Regions) -> io::Result<()> {
     Ok(())
 }
 
-// The line of region i.
+// The line of region i; none past the lists.
 fn print_region(
     rt: &impl Print,
     points: &Points,
@@ -67,16 +65,18 @@ fn print_region(
     mesh: &Mesh,
     i: usize,
     solid: Solid,
-) -> io::Result<()>
-    requires { i < 12 }
-{
-    let polygon = regions.polygons[i];
+) -> io::Result<()> {
+    let (Some(polygon), Some(material), Some(diagnostic)) = (
+        regions.polygons.get(i),
+        regions.materials.get(i),
+        mesh.diagnostics.get(i),
+    ) else {
+        return Ok(());
+    };
     let shape = match solid {
         Solid::Box { .. } => "box",
         Solid::Prism { .. } => "prism",
     };
-    let material = regions.materials[i];
-    let diagnostic = mesh.diagnostics[i];
     let elements = mesh.elements_of(i);
     print!(rt; "region {i} of polygon {polygon}: {shape}, material {material}")?;
     print!(rt; ", diagnostic {diagnostic}, elements {elements}")?;

@@ -1,5 +1,5 @@
 -- `is_in_range` meets its contract: what `all` answers. Assumes nothing.
-use Rattle.std.proofs.Common.{◌≡◌, ◌∙◌, ◌&&◌, true, false, refl, rules, arith, tests, ℕ, Bool, length}
+use Rattle.std.proofs.Common.{◌≡◌, ◌&&◌, true, false, refl, rules, arith, tests, ℕ, Bool, length}
 use Rattle.std.proofs.lemmas.Iterator.{cases_from_all, YieldsList-from_range}
 use Rattle.binary64.specs.Numbers.{at, at_most}
 use Rattle.openrdson_core.proofs.Ranges.{all_is}
