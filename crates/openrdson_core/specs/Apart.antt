@@ -1,4 +1,4 @@
--- Points that show, before the bounds are known, that a ring is no rectangle. Contracts of private functions and of `Ring::is_within`
+-- Points that show, before the bounds are known, that a ring is no rectangle. Contracts of private functions and of `is_within` of `Points` and `Ring`
 -- cite these definitions.
 use Rattle.std.specs.Prelude.{Bool, not, ◌&&◌, ◌||◌, List, length, Float}
 use Rattle.std.specs.Float.Ieee.{le}

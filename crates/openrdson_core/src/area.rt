@@ -116,7 +116,7 @@ fn largest_half(list: &[f64], from: usize, start: u32) -> u32
     most
 }
 
-// Whether the `count` points from place `from` on are in range. There is no branch in the loop, as in `Ring::is_within` (ring.rt); a ring
+// Whether the `count` points from place `from` on are in range. There is no branch in the loop, as in `Points::is_within` (points.rt); a ring
 // of these points alone, for `Ring::is_in_range`, would have its lengths to prove again.
 #[tactic(auto, using(lists::proofs::Scans::all_start, lists::proofs::Scans::all_noted))]
 fn are_in_range(ring: Ring, from: usize, count: usize) -> bool

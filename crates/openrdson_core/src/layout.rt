@@ -8,7 +8,7 @@ ghost use Rattle.openrdson_core.specs.Answers.{answer};
 ghost use Rattle.openrdson_core.specs.Layout as spec;
 
 use crate::blocks::{Cell, block_check, rows};
-use crate::bytes::contains;
+use crate::bytes::{contains, starts_with};
 use crate::maps::Span;
 use crate::refusals::Refusal;
 
@@ -98,11 +98,11 @@ pub fn layer_name(s: &[u8], layer: i16) -> Result<Option<Span>, Refusal>
 }
 
 // Whether a logical name is a marker's: the polygons of such a layer have no region.
-#[tactic(auto, using(crate::proofs::ByteLaws::starts_is), unfolding(crate::specs::Layout::is_marker))]
+#[tactic(auto, unfolding(crate::specs::Layout::is_marker))]
 pub fn is_marker(name: &[u8]) -> bool
     ensures { result ≡ spec.is_marker name.now }
 {
-    if name.starts_with(b"seed_") || name.starts_with(b"BLOCK_") {
+    if starts_with(name, b"seed_") || starts_with(name, b"BLOCK_") {
         return true;
     }
     contains(name, b"_prop") || contains(name, b"marker") || contains(name, b"drawing")

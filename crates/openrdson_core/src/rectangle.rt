@@ -96,7 +96,7 @@ fn is_near_corner(p: Point, bounds: Bbox, eps: f64) -> bool
     (left | right) & (low | high)
 }
 
-// Whether every point is within eps of a corner. There is no branch in the loop, as in `Ring::is_within` (ring.rt).
+// Whether every point is within eps of a corner. There is no branch in the loop, as in `Points::is_within` (points.rt).
 #[tactic(auto, using(crate::proofs::Apart::near_at, lists::proofs::Scans::all_start, lists::proofs::Scans::all_noted))]
 fn all_on_corners(ring: Ring, bounds: Bbox, eps: f64) -> bool
     requires in_range { points_in ring.xs.now ring.ys.now ≡ true }
